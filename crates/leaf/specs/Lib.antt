@@ -1,0 +1,4 @@
+pub mod Bytes
+pub mod Outputs
+pub mod AccessionNumbers
+pub mod ShelfMarks
