@@ -1,0 +1,3 @@
+pub mod Annexes
+pub mod Answers
+pub mod Tables
