@@ -39,7 +39,7 @@ kind-back CoFact = refl
 module _ {V : Type 0} (cells : List (EntryCell V)) where
   -- the entry of a row that is there
   pub row-there : (rows : List Row) (i : ℕ) (row : Row) → i < length rows → row ≡ getD rows i row →
-    nth (row-entries cells rows) i ≡ Some (row-entry cells row)
+      nth (row-entries cells rows) i ≡ Some (row-entry cells row)
   row-there rows i row h e = nth-map (row-entry cells) rows i ∙ ap (mapped (row-entry cells)) (nth-read rows (length rows) i row refl h e)
 
   pub row-missing : (rows : List Row) (i : ℕ) → length rows ≤ i → nth (row-entries cells rows) i ≡ None
@@ -52,7 +52,7 @@ module _ {V : Type 0} (cells : List (EntryCell V)) where
 
     -- a cell of a row
     pub own-cell : (j : ℕ) (x : EntryCell V) → j < min (length cells - first) n → x ≡ getD cells (first + j) x →
-      nth (map part-of (take n (drop first cells))) j ≡ Some (part-of x)
+        nth (map part-of (take n (drop first cells))) j ≡ Some (part-of x)
     own-cell j x h e =
         let there : nth cells (first + j) ≡ Some x = nth-read cells (length cells) (first + j) x refl (omega arith) e in
         nth-map part-of (take n (drop first cells)) j
@@ -63,8 +63,8 @@ module _ {V : Type 0} (cells : List (EntryCell V)) where
 
   -- the outline of a row
   pub outline-there : (rows : List Row) (i : ℕ) (row : Row) (n : ℕ) → i < length rows → row ≡ getD rows i row →
-    n ≡ min (length cells - row .first) (row .cells) →
-    Some (record { kind = row .kind; cells = n; head = row .head; goals = row .body .len }) ≡ outline-at (row-entries cells rows) i
+      n ≡ min (length cells - row .first) (row .cells) →
+      Some (record { kind = row .kind; cells = n; head = row .head; goals = row .body .len }) ≡ outline-at (row-entries cells rows) i
   outline-there rows i row n h e m =
       let own : length (map part-of (take (row .cells) (drop (row .first) cells))) ≡ n = own-count (row .first) (row .cells) ∙ sym m in
       let goals : length (listed (row .body)) ≡ row .body .len = length-listed (row .body .len) (row .body .cells) in

@@ -44,14 +44,14 @@ module _ {V : Type 0} where
         head = node-once (nth (e .parts) (e .head)) (p .head) (q .head) i;
         few-goals = le-prop (p .few-goals) (q .few-goals) i;
         goals = all-once (λ b. IsNode (nth (e .parts) b)) (λ b. node-once (nth (e .parts) b)) (e .body) (p .goals) (q .goals) i;
-        no-body = body-once (e .kind) (e .body) (p .no-body) (q .no-body) i
+        no-body = body-once (e .kind) (e .body) (p .no-body) (q .no-body) i;
       }
 
   pub book-once : (book : List (Entry V)) → IsProp (BookRules book)
   book-once book p q =
       λ i. record {
         few = le-prop (p .few) (q .few) i;
-        entries = all-once EntryRules entry-once book (p .entries) (q .entries) i
+        entries = all-once EntryRules entry-once book (p .entries) (q .entries) i;
       }
 
   pub kept : {book : List (Entry V)} → ∥ BookRules book ∥₁ → BookRules book

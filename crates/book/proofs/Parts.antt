@@ -24,14 +24,14 @@ nth-map f (x ∷ xs) (suc i) = nth-map f xs i
 
 module _ {V : Type 0} where
   parts-push : (j : ℕ) (ps : List (Part V)) (p : Part V) → PartsRules j ps → PartRules (j + length ps) p →
-    PartsRules j (ps ++ p ∷ [])
+      PartsRules j (ps ++ p ∷ [])
   parts-push j [] p r h = (subst (λ n. PartRules n p) (add-zero j) h, tt)
   parts-push j (x ∷ ps) p r h =
       let e : j + suc (length ps) ≡ suc j + length ps = omega arith in
       (r .0, parts-push (suc j) ps p (r .1) (subst (λ n. PartRules n p) e h))
 
   parts-at : (j : ℕ) (ps : List (Part V)) (i : ℕ) (d : Part V) → i < length ps → PartsRules j ps →
-    PartRules (j + i) (getD ps i d)
+      PartRules (j + i) (getD ps i d)
   parts-at j [] i d h r = absurd (omega arith)
   parts-at j (x ∷ ps) zero d h r = subst (λ n. PartRules n x) (sym (add-zero j)) (r .0)
   parts-at j (x ∷ ps) (suc i) d h r =
@@ -49,19 +49,19 @@ module _ {V : Type 0} where
 
     -- one cell more keeps the rules
     pub cell-adds : PartsRules 0 (map part-of (take i cells)) → PartRules i (part-of x) →
-      PartsRules 0 (map part-of (take (i + 1) cells))
+        PartsRules 0 (map part-of (take (i + 1) cells))
     cell-adds rules keeps =
         let n : length (map part-of (take i cells)) ≡ i = length-map (take i cells) part-of ∙ length-take-le i cells (omega arith) in
         let m : 0 + length (map part-of (take i cells)) ≡ i = omega arith in
         let s : map part-of (take (i + 1) cells) ≡ map part-of (take i cells) ++ part-of x ∷ [] =
-          map-more part-of cells i x h ∙ ap (λ y. map part-of (take i cells) ++ part-of y ∷ []) (sym e) in
+        map-more part-of cells i x h ∙ ap (λ y. map part-of (take i cells) ++ part-of y ∷ []) (sym e) in
         subst (PartsRules 0) (sym s) (parts-push 0 (map part-of (take i cells)) (part-of x) rules (subst (λ q. PartRules q (part-of x)) (sym m) keeps))
 
     -- the test of the cell with a number tells of the cell with that number
     pub node-there : (r : Bool) → Decides r (IsNode (Some (part-of x))) → Decides r (IsNode (nth (map part-of cells) i))
     node-there r d =
         let f : nth (map part-of cells) i ≡ Some (part-of x) =
-          nth-map part-of cells i ∙ ap (mapped part-of) (nth-read cells (length cells) i x refl h e) in
+        nth-map part-of cells i ∙ ap (mapped part-of) (nth-read cells (length cells) i x refl h e) in
         subst (λ o. Decides r (IsNode o)) (sym f) d
 
   pub node-missing : (cells : List (EntryCell V)) (i : ℕ) → length cells ≤ i → Decides false (IsNode (nth (map part-of cells) i))

@@ -18,6 +18,6 @@ module _ {V : Type 0} (cells : List (EntryCell V)) (rows : List Row) where
       (record {
         few = simp (length-map, length-take) (omega (arith, good .few));
         entries =
-          all-map EntryRules (row-entry cells) (take n rows)
-          (all-weaker (RowRules cells) (λ row. EntryRules (row-entry cells row)) (λ row k. k .rules) (take n rows) (good .good))
+            all-map EntryRules (row-entry cells) (take n rows)
+            (all-weaker (RowRules cells) (λ row. EntryRules (row-entry cells row)) (λ row k. k .rules) (take n rows) (good .good));
       })

@@ -22,11 +22,11 @@ module _ {V : Type 0} where
   pub annexed-rules : {es fs : List (Entry V)} → ∥ BookRules es ∥₁ → ∥ BookRules fs ∥₁ → ∥ BookRules (annexed es fs) ∥₁
   annexed-rules {es} {fs} p q =
       ∥∥₁-elim p ∥∥₁-prop λ r.
-        ∥∥₁-elim q ∥∥₁-prop λ s.
-          ∣ record {
-            few = simp length-take (omega arith);
-            entries = all-take EntryRules 1024 (es ++ fs) (all-append EntryRules es fs (r .entries) (s .entries))
-          } ∣₁
+      ∥∥₁-elim q ∥∥₁-prop λ s.
+      ∣ record {
+        few = simp length-take (omega arith);
+        entries = all-take EntryRules 1024 (es ++ fs) (all-append EntryRules es fs (r .entries) (s .entries));
+      } ∣₁
 
   -- the entry with that number is one of the first book, or has another number in the second, or is not there
   abbrev pub LiesIn : List (Entry V) → List (Entry V) → ℕ → Place → Type 0

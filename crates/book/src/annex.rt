@@ -1,11 +1,11 @@
 ghost use mathlib.Core.Path.{_≡_};
 ghost use Rattle.std.specs.Finite.{nth};
 ghost use Rattle.book.specs.Annexes.{annexed, annexed-rules, LiesIn};
-use leaf::kind::Leaf;
 use crate::entry::EntryCell;
 use crate::entry::Outline;
 use crate::interface::Book;
 use crate::place::Place;
+use leaf::kind::Leaf;
 
 // Two books as one: the entries of the first, then those of the second, ended after 1,024.
 #[derive(Drop)]

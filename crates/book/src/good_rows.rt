@@ -1,8 +1,8 @@
 ghost use Rattle.book.specs.Tables.{GoodRows};
-use leaf::kind::Leaf;
 use crate::entry::EntryCell;
 use crate::rules::row_keeps;
 use crate::table::Row;
+use leaf::kind::Leaf;
 
 // How many rows come before the first faulty one, at most 1,024.
 pub fn good_rows<L: Leaf>(rows: &[Row], cells: &[EntryCell<L>]) -> usize

@@ -4,9 +4,9 @@ ghost use lib.ListN.{length};
 ghost use Rattle.std.specs.Options.{mapped};
 ghost use Rattle.theory.specs.Entries.{Entry, BookRules};
 ghost use Rattle.book.specs.Answers.{outline-at, cell-at, goal-at, part-of};
-use leaf::kind::Leaf;
 use crate::entry::EntryCell;
 use crate::entry::Outline;
+use leaf::kind::Leaf;
 
 // A book of rules. Its meaning is a list of entries; every question is answered by it, and changes nothing.
 pub trait Book<L: Leaf> {

@@ -6,12 +6,12 @@ ghost use Rattle.std.specs.Finite.{nth};
 ghost use Rattle.std.specs.Options.{mapped};
 ghost use Rattle.book.specs.Answers.{cell-at, goal-at, listed, outline-at, part-of};
 ghost use Rattle.book.specs.Tables.{table-entries};
-use leaf::kind::Leaf;
 use crate::entry::CellNumbers;
 use crate::entry::EntryCell;
 use crate::entry::Outline;
 use crate::table::Row;
 use crate::table::Table;
+use leaf::kind::Leaf;
 
 // One of the numbers listed; those past what the list holds are 0.
 fn number_at<const N: usize>(list: &CellNumbers<N>, index: usize) -> Option<u8>
@@ -46,7 +46,12 @@ impl<L: Leaf> Table<'_, L> {
     {
         let row = self.rows.get(entry)?;
         let cells = self.own_count(row);
-        Some(Outline { kind: row.kind, cells, head: row.head, goals: row.body.len as usize })
+        Some(Outline {
+            kind: row.kind,
+            cells,
+            head: row.head,
+            goals: row.body.len as usize,
+        })
     }
 
     pub fn cell(&self, entry: usize, cell: usize) -> Option<EntryCell<L>>

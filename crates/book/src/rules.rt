@@ -11,11 +11,11 @@ ghost use Rattle.std.specs.declared.option.Option.the-variants.{Some};
 ghost use Rattle.theory.specs.Entries.{BodyRule, EntryRules, IsNode, PartRules, PartsRules};
 ghost use Rattle.book.specs.Answers.{kind-of, listed, part-of};
 ghost use Rattle.book.specs.Tables.{RowRules, entry-over};
-use leaf::kind::Leaf;
 use crate::entry::CellNumbers;
 use crate::entry::EntryCell;
 use crate::entry::EntryKind;
 use crate::table::Row;
+use leaf::kind::Leaf;
 
 // The numbers listed, unless the list says that it has more than it holds.
 pub fn numbers<const N: usize>(list: &CellNumbers<N>) -> Option<&[u8]>

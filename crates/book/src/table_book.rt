@@ -1,12 +1,12 @@
 ghost use Rattle.theory.specs.Entries.{BookRules};
 ghost use Rattle.book.specs.Tables.{TableMeans, table-entries};
-use leaf::kind::Leaf;
 use crate::entry::EntryCell;
 use crate::entry::Outline;
 use crate::good_rows::good_rows;
 use crate::interface::Book;
 use crate::table::Row;
 use crate::table::Table;
+use leaf::kind::Leaf;
 
 // A book that stands on a table: the entries before its first faulty row.
 #[derive(Drop)]
@@ -20,7 +20,12 @@ impl<'a, L: Leaf> TableBook<'a, L> {
         ensures { λ r. ⌜ TableMeans (now (cells .entry)) (now (rows .entry)) (table-entries (r .table)) ⌝ }
     {
         let good = good_rows(rows, cells);
-        TableBook { table: Table { rows: &rows[0..good], cells } }
+        TableBook {
+            table: Table {
+                rows: &rows[0..good],
+                cells,
+            },
+        }
     }
 }
 

@@ -29,9 +29,55 @@ runs-at n (x ∷ ls) zero l r e = let s : x ≡ l = cc in ap code (sym s) ∙ r 
 runs-at n (x ∷ ls) (suc k) l r e = runs-at (suc n) ls k l (r .1) e ∙ omega arith
 
 letters-run : Runs 65 letters
-letters-run =
-    (refl, (refl, (refl, (refl, (refl, (refl, (refl, (refl, (refl, (refl, (refl, (refl, (refl, (refl, (refl, (refl,
-    (refl, (refl, (refl, (refl, (refl, (refl, (refl, (refl, (refl, (refl, tt))))))))))))))))))))))))))
+letters-run = (
+  refl,
+  (
+    refl,
+    (
+      refl,
+      (
+        refl,
+        (
+          refl,
+          (
+            refl,
+            (
+              refl,
+              (
+                refl,
+                (
+                  refl,
+                  (
+                    refl,
+                    (
+                      refl,
+                      (
+                        refl,
+                        (
+                          refl,
+                          (
+                            refl,
+                            (
+                              refl,
+                              (
+                                refl,
+                                (refl, (refl, (refl, (refl, (refl, (refl, (refl, (refl, (refl, (refl, tt)))))))))),
+                              ),
+                            ),
+                          ),
+                        ),
+                      ),
+                    ),
+                  ),
+                ),
+              ),
+            ),
+          ),
+        ),
+      ),
+    ),
+  ),
+)
 
 pub letter-below : (n : ℕ) → n < 65 → letter-of n ≡ None
 letter-below n h = rw (lt-ltb n 65 h) refl

@@ -1,4 +1,4 @@
 // Leaf kinds: what the leaves of a tree are, how they are compared, and how they are written as bytes.
-pub mod kind;
 pub mod accession_number;
+pub mod kind;
 pub mod shelf_mark;

@@ -37,10 +37,32 @@ pub enum Letter {
 
 // The letters in their order.
 const LETTERS: [Letter; 26] = [
-    Letter::A, Letter::B, Letter::C, Letter::D, Letter::E, Letter::F, Letter::G,
-    Letter::H, Letter::I, Letter::J, Letter::K, Letter::L, Letter::M, Letter::N,
-    Letter::O, Letter::P, Letter::Q, Letter::R, Letter::S, Letter::T, Letter::U,
-    Letter::V, Letter::W, Letter::X, Letter::Y, Letter::Z,
+    Letter::A,
+    Letter::B,
+    Letter::C,
+    Letter::D,
+    Letter::E,
+    Letter::F,
+    Letter::G,
+    Letter::H,
+    Letter::I,
+    Letter::J,
+    Letter::K,
+    Letter::L,
+    Letter::M,
+    Letter::N,
+    Letter::O,
+    Letter::P,
+    Letter::Q,
+    Letter::R,
+    Letter::S,
+    Letter::T,
+    Letter::U,
+    Letter::V,
+    Letter::W,
+    Letter::X,
+    Letter::Y,
+    Letter::Z,
 ];
 
 impl Letter {

@@ -15,11 +15,12 @@ returns-then-not-row-keeps g c =
       within = omega arith;
       few = c .loop-n .inv .0;
       good = c .loop-n .inv .1;
-      last = inr (inr (subst (Faulty cells) (sym there) (told-no _ (c .row-keeps .ensures) (c .if-not-row-keeps .taken))))
+      last = inr (inr (subst (Faulty cells) (sym there) (told-no _ (c .row-keeps .ensures) (c .if-not-row-keeps .taken))));
     }
 
 pub loop-n-again : need.loop-n-again
-loop-n-again g c =
-    (omega arith,
-      all-more (RowRules (c .args .cells .now)) (c .args .rows .now) (c .loop-n .n) _ (omega arith) (c .loop-n .inv .1)
-      (told-yes _ (c .row-keeps .ensures) (c .if-not-row-keeps .left)))
+loop-n-again g c = (
+  omega arith,
+  all-more (RowRules (c .args .cells .now)) (c .args .rows .now) (c .loop-n .n) _ (omega arith) (c .loop-n .inv .1)
+      (told-yes _ (c .row-keeps .ensures) (c .if-not-row-keeps .left)),
+)

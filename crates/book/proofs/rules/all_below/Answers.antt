@@ -9,8 +9,8 @@ use Rattle.book.proofs.rules.all_below.Needs as need
 pub returns-then-n-limit : need.returns-then-n-limit
 returns-then-n-limit c =
     no-decides λ all.
-      let h = all-getD (λ n. n < c .args .limit) (c .args .numbers .now) (c .loop-n .n-index) 0 (omega arith) all in
-      omega arith
+    let h = all-getD (λ n. n < c .args .limit) (c .args .numbers .now) (c .loop-n .n-index) 0 (omega arith) all in
+    omega arith
 
 pub loop-n-again : need.loop-n-again
 loop-n-again c =

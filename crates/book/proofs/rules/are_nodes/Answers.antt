@@ -13,8 +13,8 @@ use Rattle.book.proofs.rules.are_nodes.Needs as need
 pub returns-then-not-has-node : need.returns-then-not-has-node
 returns-then-not-has-node g c =
     no-decides λ all.
-      told-no _ (c .has-node .ensures) (c .if-not-has-node .taken)
-      (all-getD (λ (n : ℕ). IsNode (nth (map part-of (c .args .cells .now)) n)) (c .args .numbers .now) (c .loop-n .n-index) 0 (omega arith) all)
+    told-no _ (c .has-node .ensures) (c .if-not-has-node .taken)
+    (all-getD (λ (n : ℕ). IsNode (nth (map part-of (c .args .cells .now)) n)) (c .args .numbers .now) (c .loop-n .n-index) 0 (omega arith) all)
 
 pub loop-n-again : need.loop-n-again
 loop-n-again g c =

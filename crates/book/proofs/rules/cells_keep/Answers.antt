@@ -13,7 +13,7 @@ pub returns-then-not-cell-keeps : need.returns-then-not-cell-keeps
 returns-then-not-cell-keeps g c =
     no-decides
     (cell-breaks (c .args .cells .now) (c .loop-place .place) (c .index-cells-place .result) (omega arith)
-      (c .index-cells-place .is) (told-no _ (c .cell-keeps .ensures) (c .if-not-cell-keeps .taken)))
+    (c .index-cells-place .is) (told-no _ (c .cell-keeps .ensures) (c .if-not-cell-keeps .taken)))
 
 pub loop-place-again : need.loop-place-again
 loop-place-again g c =

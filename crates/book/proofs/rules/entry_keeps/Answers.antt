@@ -13,9 +13,9 @@ pub returns-then-count-lt1 : need.returns-then-count-lt1
 returns-then-count-lt1 g c =
     let n = length-map (c .args .own .now) part-of in
     no-decides λ rules.
-      let low = rules .some-part in
-      let high = rules .few-parts in
-      ⊎-elim (λ h. omega arith) (λ h. omega arith) (c .then-count-lt1 .either)
+    let low = rules .some-part in
+    let high = rules .few-parts in
+    ⊎-elim (λ h. omega arith) (λ h. omega arith) (c .then-count-lt1 .either)
 
 pub returns-then-not-cells-keep : need.returns-then-not-cells-keep
 returns-then-not-cells-keep g c =
@@ -26,13 +26,13 @@ returns g c =
     let n = length-map (c .args .own .now) part-of in
     decides-by _ (c .goals-keep .ensures)
     (λ h.
-      record {
-        some-part = omega arith;
-        few-parts = omega arith;
-        parts = told-yes _ (c .cells-keep .ensures) (c .if-not-cells-keep .left);
-        head = h .0;
-        few-goals = h .1;
-        goals = h .2;
-        no-body = h .3
-      })
+    record {
+      some-part = omega arith;
+      few-parts = omega arith;
+      parts = told-yes _ (c .cells-keep .ensures) (c .if-not-cells-keep .left);
+      head = h .0;
+      few-goals = h .1;
+      goals = h .2;
+      no-body = h .3;
+    })
     (λ r. (r .head, r .few-goals, r .goals, r .no-body))

@@ -17,7 +17,7 @@ returns-then-cell-own-count g c =
     let h = c .in-Continue-row .ensures tt .finds in
     sym
     (ap (λ o. cell-in o (c .args .cell)) (row-there (t .cells .now) (t .rows .now) (c .args .entry) row (h .3 .0) (h .1))
-      ∙ own-past (t .cells .now) (row .first) (row .cells) (c .args .cell) (omega (arith, c .own-count .ensures)))
+    ∙ own-past (t .cells .now) (row .first) (row .cells) (c .args .cell) (omega (arith, c .own-count .ensures)))
 
 pub returns : need.returns
 returns g c =
@@ -26,5 +26,5 @@ returns g c =
     let h = c .in-Continue-row .ensures tt .finds in
     sym
     (ap (λ o. cell-in o (c .args .cell)) (row-there (t .cells .now) (t .rows .now) (c .args .entry) row (h .3 .0) (h .1))
-      ∙ own-cell (t .cells .now) (row .first) (row .cells) (c .args .cell) (c .index-cells-row .result)
-      (omega (arith, c .own-count .ensures)) (c .index-cells-row .is))
+    ∙ own-cell (t .cells .now) (row .first) (row .cells) (c .args .cell) (c .index-cells-row .result)
+    (omega (arith, c .own-count .ensures)) (c .index-cells-row .is))
