@@ -30,7 +30,7 @@ pub fn numbers<const N: usize>(list: &CellNumbers<N>) -> Option<&[u8]>
 }
 
 // Whether every number is below the limit.
-fn all_below(numbers: &[u8], limit: usize) -> bool
+pub fn all_below(numbers: &[u8], limit: usize) -> bool
     ensures { λ r. ⌜ Decides r (All (λ n. n < limit) (now (numbers .entry))) ⌝ }
 {
     for n in numbers {
@@ -84,7 +84,7 @@ fn is_node<L: Leaf>(cell: &EntryCell<L>) -> bool
 }
 
 // Whether there is a cell with that number, and it is a node.
-fn has_node<L: Leaf>(cells: &[EntryCell<L>], number: u8) -> bool
+pub fn has_node<L: Leaf>(cells: &[EntryCell<L>], number: u8) -> bool
     ensures { λ r. ⌜ Decides r (IsNode (nth (map part-of (now (cells .entry))) number)) ⌝ }
 {
     match cells.get(number as usize) {
@@ -94,7 +94,7 @@ fn has_node<L: Leaf>(cells: &[EntryCell<L>], number: u8) -> bool
 }
 
 // Whether the cells with those numbers are all nodes.
-fn are_nodes<L: Leaf>(cells: &[EntryCell<L>], numbers: &[u8]) -> bool
+pub fn are_nodes<L: Leaf>(cells: &[EntryCell<L>], numbers: &[u8]) -> bool
     ensures { λ r. ⌜ Decides r (All (λ n. IsNode (nth (map part-of (now (cells .entry))) n)) (now (numbers .entry))) ⌝ }
 {
     for n in numbers {

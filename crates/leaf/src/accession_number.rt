@@ -1,8 +1,9 @@
 ghost use lib.Dec.{eqb};
 ghost use Rattle.leaf.specs.AccessionNumbers.{number-bytes, number-of, never};
 use crate::kind::Leaf;
-use crate::kind::TooShort;
 use crate::kind::WireLeaf;
+use crate::output::TooShort;
+use crate::output::put;
 
 // The number under which an archive registers a reel.
 #[derive(Clone, Copy, PartialEq, Eq, Debug)]
@@ -42,11 +43,7 @@ pub impl WireLeaf for AccessionNumber as AccessionNumberWireLeaf {
     }
 
     fn write(&self, out: &mut [u8]) -> Result<usize, TooShort> {
-        if out.len() < 4 {
-            return Err(TooShort);
-        }
         let number = self.0;
-        out[0..4].copy_from_slice(&number.to_be_bytes());
-        Ok(4)
+        put(out, &number.to_be_bytes())
     }
 }

@@ -10,6 +10,7 @@ ghost use Rattle.std.specs.declared.option.Option.{Option};
 ghost use Rattle.std.specs.declared.option.Option.the-variants.{Some};
 ghost use Rattle.leaf.specs.Bytes.{Bytes};
 ghost use Rattle.leaf.specs.Outputs.{Fills, Short};
+use crate::output::TooShort;
 
 // A kind of leaf. The meaning of a leaf is its value, and the one question is whether two values are the same.
 pub trait Leaf: Copy {
@@ -22,10 +23,6 @@ pub trait Leaf: Copy {
     fn same(&self, other: &Self) -> bool
         ensures { λ r. ⌜ r ≡ alike (now (self .entry)) (now (other .entry)) ⌝ };
 }
-
-// The output has fewer bytes than are to be written. Nothing was written.
-#[derive(Clone, Copy, PartialEq, Eq, Debug)]
-pub struct TooShort;
 
 // A kind of leaf that can be written as bytes, always as many as the kind is wide.
 pub trait WireLeaf: Leaf {

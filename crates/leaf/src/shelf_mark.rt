@@ -1,8 +1,9 @@
 ghost use mathlib.Core.Path.{_≡_};
 ghost use Rattle.leaf.specs.ShelfMarks.{alike-marks, code, letter-of, mark-bytes, mark-of, no-letter};
 use crate::kind::Leaf;
-use crate::kind::TooShort;
 use crate::kind::WireLeaf;
+use crate::output::TooShort;
+use crate::output::put;
 
 // A capital letter. As a case of its own it needs no rule about which bytes are letters.
 #[derive(Clone, Copy, Debug)]
@@ -123,12 +124,8 @@ pub impl WireLeaf for ShelfMark as ShelfMarkWireLeaf {
     }
 
     fn write(&self, out: &mut [u8]) -> Result<usize, TooShort> {
-        if out.len() < 3 {
-            return Err(TooShort);
-        }
         let number = self.number;
-        out[0] = self.letter.code();
-        out[1..3].copy_from_slice(&number.to_be_bytes());
-        Ok(3)
+        let [high, low] = number.to_be_bytes();
+        put(out, &[self.letter.code(), high, low])
     }
 }

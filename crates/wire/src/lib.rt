@@ -1,0 +1,6 @@
+// Books as bytes: reading, inspecting, writing and listing them.
+pub mod cells;
+pub mod decode;
+pub mod faults;
+pub mod field;
+pub mod split;
