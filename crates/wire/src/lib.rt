@@ -3,4 +3,6 @@ pub mod cells;
 pub mod decode;
 pub mod faults;
 pub mod field;
+pub mod item;
+pub mod read_field;
 pub mod split;
