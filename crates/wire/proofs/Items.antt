@@ -11,7 +11,7 @@ use Rattle.std.specs.declared.option.Option.{Option}
 use Rattle.std.specs.declared.option.Option.the-variants.{Some, None}
 use Rattle.std.specs.declared.result.Result.{Result}
 use Rattle.std.specs.declared.result.Result.the-variants.{Ok, Err}
-use Rattle.std.proofs.shelf.Lists.{length-drop, length-map}
+use Rattle.std.proofs.shelf.Lists.{length-map}
 use Rattle.theory.specs.Entries.{Part, variable, leaf, node}
 use Rattle.book.specs.declared.entry.EntryCell.{EntryCell}
 use Rattle.book.specs.declared.entry.Node.{Node}
@@ -81,9 +81,6 @@ module _ {V : Type 0} (wide : ℕ) (reading : List ℕ → Option V) (held : Lis
 
     pub node-place : at ≡ place
     node-place = is-node .0
-
-    pub few-args : length (now args) ≤ 4
-    few-args = omega (arith, ap length (is-node .5), length-drop 2 bs, is-node .3)
 
     pub no-room-node : 64 ≤ length held → seen wide reading (map part-of held) bs (shape tag) ≡ wrong TooMuch
     no-room-node h =

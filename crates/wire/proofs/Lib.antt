@@ -1,3 +1,4 @@
+pub mod FirstFields
 pub mod Every
 pub mod Items
 pub mod Seen

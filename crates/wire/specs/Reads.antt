@@ -1,17 +1,22 @@
 -- What the reader's own values stand for. Assumes nothing.
 use mathlib.Core.Path.{_≡_}
 use mathlib.Core.Bool.{true}
-use mathlib.Core.List.{List, map}
-use Prim.Native.Nat.{ℕ, _+_, _*_, _≤_}
+use mathlib.Core.List.{List, [], _∷_, _++_, map}
+use Prim.Native.Nat.{ℕ, _+_, _-_, _*_, _<_, _≤_}
 use denote.Ref.{now}
 use lib.ListN.{length, getD, take, drop}
-use Rattle.std.specs.declared.option.Option.the-variants.{Some}
-use Rattle.form.specs.Fields.{whole, first-field, after-field}
+use Rattle.std.specs.declared.option.Option.{Option}
+use Rattle.std.specs.declared.option.Option.the-variants.{Some, None}
+use Rattle.theory.specs.Entries.{Part}
+use Rattle.form.specs.Fields.{whole, first-field, after-field, cut}
 use Rattle.form.specs.declared.fault.Fault.{Fault}
-use Rattle.form.specs.Meanings.{Seen, cell, goals, inner-fault, wrong, shape, variable-field, leaf-field, node-field, goals-field}
+use Rattle.form.specs.Meanings.{Seen, bad, complete, unended, ending-of, goals-end, cell, goals, inner-fault, wrong, shape, variable-field, leaf-field, node-field, goals-field}
 use Rattle.std.specs.declared.result.Result.{Result}
 use Rattle.std.specs.declared.result.Result.the-variants.{Ok, Err}
 use Rattle.book.specs.Answers.{listed, part-of}
+use Rattle.wire.specs.declared.cells.Cells.{Cells}
+use Rattle.wire.specs.declared.contents.Contents.{Contents}
+use Rattle.wire.specs.declared.contents.Step.{Step}
 use Rattle.wire.specs.declared.item.Item.{Item}
 use Rattle.wire.specs.declared.item.Item.the-variants.{Cell, Goals}
 use Rattle.wire.specs.declared.field.Split.{Split}
@@ -42,3 +47,30 @@ abbrev pub ItemMeans : {V : Type 0} → ℕ → ℕ → Seen V → Result (Item 
 ItemMeans place n s (Ok (Cell c)) = s ≡ cell (part-of c)
 ItemMeans place n s (Ok (Goals g)) = s ≡ goals (g .head) (listed (g .body))
 ItemMeans place n s (Err f) = (s ≡ wrong (f .cause)) × (f ≡ inner-fault (f .cause) place n)
+
+-- the cells held, as parts of an entry
+abbrev pub held-parts : {V : Type 0} → Cells V → List (Part V)
+held-parts cs = map part-of (take (cs .count) (cs .list))
+
+module _ {V : Type 0} (wide : ℕ) (reading : List ℕ → Option V) where
+  -- after a field the contents go on with one cell more, or end with the goals, and left is what follows the field
+  abbrev pub GoesOn : List (Part V) → ℕ → List ℕ → Item V → List ℕ → Type 0
+  GoesOn ps place bs (Cell c) left =
+      (length ps < 64) × (ending-of wide reading ps place bs ≡ ending-of wide reading (ps ++ part-of c ∷ []) (place + (length bs - length left)) left)
+  GoesOn ps place bs (Goals g) left =
+      ending-of wide reading ps place bs
+      ≡ goals-end ps (g .head) (listed (g .body)) (place + (length bs - length left)) (cut left .fields) (cut left .left)
+
+  -- one step through the contents of an entry
+  abbrev pub StepMeans : List (Part V) → ℕ → ℕ → List ℕ → Result (Step V) Fault → Type 0
+  StepMeans ps place n bs (Ok s) = (length (now (s .left)) < length bs) × GoesOn ps place bs (s .item) (now (s .left))
+  StepMeans ps place n bs (Err f) =
+      (ending-of wide reading ps place bs ≡ bad (f .cause) (f .place)) × (f ≡ inner-fault (f .cause) (f .place) n)
+
+  -- how the contents of an entry were read: complete, without goals, or with a fault
+  abbrev pub ContentsMean : ℕ → ℕ → List ℕ → Result (Option (Contents V)) Fault → Type 0
+  ContentsMean place n bs (Ok (Some c)) =
+      ending-of wide reading [] place bs ≡ complete (held-parts (c .cells)) (c .goals .head) (listed (c .goals .body))
+  ContentsMean place n bs (Ok None) = ending-of wide reading [] place bs ≡ unended
+  ContentsMean place n bs (Err f) =
+      (ending-of wide reading [] place bs ≡ bad (f .cause) (f .place)) × (f ≡ inner-fault (f .cause) (f .place) n)

@@ -1,7 +1,7 @@
 use mathlib.Core.Path.{refl}
 use Rattle.std.specs.declared.option.Option.the-variants.{None, Some}
 use Rattle.std.proofs.shelf.Results.{err-from-errBy}
-use Rattle.wire.proofs.Items.{a-leaf, a-node, a-variable, bad-node, fault-item, few-args, leaf-place, no-room-leaf, no-room-node, no-room-variable, node-place, variable-place}
+use Rattle.wire.proofs.Items.{a-leaf, a-node, a-variable, bad-node, fault-item, leaf-place, no-room-leaf, no-room-node, no-room-variable, node-place, variable-place}
 use Rattle.wire.proofs.read_field.read_field.Needs as need
 
 pub returns-in-Break-field : need.returns-in-Break-field
