@@ -17,13 +17,7 @@ use Rattle.form.specs.declared.fault.Cause.{Cause}
 use Rattle.form.specs.declared.fault.Cause.the-variants.{WrongLength, WrongCell, TooMuch}
 use Rattle.form.specs.Meanings.{Test, Shape, variable-field, leaf-field, node-field, goals-field, shape, between, every, Seen, wrong, cell, goals, node-at, judged, leaf-seen, seen}
 use Rattle.form.proofs.Bytewise.{every-all}
-
--- a number in two bytes has no other two bytes
-pub two-bytes-back : (h l : ℕ) → l < 256 → two-bytes (h * 256 + l) ≡ h ∷ l ∷ []
-two-bytes-back h l b =
-    let high : (h * 256 + l) / 256 ≡ h = omega arith in
-    let low : (h * 256 + l) % 256 ≡ l = omega arith in
-    cc
+use Rattle.form.proofs.Rows.{two-bytes-back}
 
 module _ {V : Type 0} where
   -- the test of a cell's number tells that the cell is a node
