@@ -1,6 +1,9 @@
 pub mod Bytewise
 pub mod Cuts
+pub mod PartFields
+pub mod ReadBack
 pub mod Rows
 pub mod Rules
 pub mod Sights
 pub mod Steps
+pub mod WriteBack
