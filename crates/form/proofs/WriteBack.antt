@@ -149,3 +149,12 @@ module _ {V : Type 0} (wide : ℕ) (written : V → List ℕ) (reading : List �
       (row-of wide reading 0 0 bs) (λ m. m .first-fault ≡ None → bs ≡ book-form written (m .entries))
       (λ _ sound. let z : _≡_ {A = ℕ} 0 1 = cc in absurd (omega arith))
       (λ _ sound. sym (uncut bs b) ∙ means-writes 0 0 (cut bs .fields) (cut bs .left) (cut-bytes bs b) sound)
+
+  -- bytes without a fault that mean the same are the same
+  pub one-form : (xs ys : List ℕ) → Bytes xs → Bytes ys → meaning wide reading xs .first-fault ≡ None →
+      meaning wide reading xs ≡ meaning wide reading ys → xs ≡ ys
+  one-form xs ys b d sound same =
+      let too : meaning wide reading ys .first-fault ≡ None = ap (λ (m : Meaning V). m .first-fault) (sym same) ∙ sound in
+      write-back xs b sound
+      ∙ ap (λ (m : Meaning V). book-form written (m .entries)) same
+      ∙ sym (write-back ys d too)
