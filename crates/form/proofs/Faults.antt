@@ -17,7 +17,9 @@ use Rattle.form.specs.declared.fault.Cause.the-variants.{TooMuch}
 use Rattle.form.specs.declared.fault.Fault.{Fault}
 use Rattle.form.specs.Fields.{Field, cut}
 use Rattle.form.specs.Meanings.{Seen, wrong, cell, goals, Ending, bad, unended, complete, Found, entry, fault, Meaning, row-fault, next-place, shape, entry-kind, goals-end, on-seen, closed, on-found, seen, ending, ending-of, found, row-means, row-of, meaning}
+use Rattle.form.specs.Forms.{entry-form, book-form}
 use Rattle.form.proofs.Rows.{field-bytes, HoldsBytes, cut-bytes, uncut}
+use Rattle.form.proofs.WriteBack.{FoundWrites, found-writes}
 
 -- how many bytes fields and what is left are
 abbrev bytes-of : List Field → List ℕ → ℕ
@@ -114,48 +116,74 @@ module _ {V : Type 0} (wide : ℕ) (reading : List ℕ → Option V) where
       closed-lies k place (next-place place f) n end (omega arith)
       (end-wider place (place + 3) (next-place place f) end (omega arith) inner))
 
+module _ {V : Type 0} (wide : ℕ) (written : V → List ℕ) (reading : List ℕ → Option V)
+    (rewrites : (bs : List ℕ) (v : V) → Bytes bs → reading bs ≡ Some v → written v ≡ bs) where
   means-lies : (place n : ℕ) (fs : List Field) (left : List ℕ) → All HoldsBytes fs →
-      Lies place (place + bytes-of fs left) (n + length (row-means wide reading place n fs left .entries))
-      (row-means wide reading place n fs left .first-fault)
+      let m = row-means wide reading place n fs left in
+      Lies (place + length (book-form written (m .entries))) (place + bytes-of fs left) (n + length (m .entries)) (m .first-fault)
   means-lies place n [] [] bytes = tt
   means-lies place n [] (b ∷ bs) bytes = (omega arith, omega arith, omega arith)
   means-lies place n (f ∷ fs) left bytes =
-      go (found wide reading place n f (entry-kind (f .tag))) (found-lies place n f (entry-kind (f .tag)) (bytes .0))
-      (rest .first-fault) refl (means-lies (next-place place f) (suc n) fs left (bytes .1))
+      go (found wide reading place n f (entry-kind (f .tag)))
+      (found-lies wide reading place n f (entry-kind (f .tag)) (bytes .0))
+      (found-writes wide written reading rewrites place n f (entry-kind (f .tag)) refl (bytes .0))
+      (more .first-fault) refl (means-lies (next-place place f) (suc n) fs left (bytes .1))
     where
-      rest : Meaning V
-      rest = row-means wide reading (next-place place f) (suc n) fs left
+      more : Meaning V
+      more = row-means wide reading (next-place place f) (suc n) fs left
 
       to : ℕ
       to = place + bytes-of (f ∷ fs) left
 
-      go : (x : Found V) → FoundLies place (next-place place f) n x → (o : Option Fault) → rest .first-fault ≡ o →
-          Lies (next-place place f) (next-place place f + bytes-of fs left) (suc n + length (rest .entries)) (rest .first-fault) →
-          Lies place to (n + length (on-found x rest .entries)) (on-found x rest .first-fault)
-      go (fault x) lies o is again = let e = bytes-more f fs left place in (omega (arith, lies .0), lies .1, omega (arith, lies .2))
-      go (entry e) lies None is again = subst (Lies place to (n + suc (length (rest .entries)))) (sym is) tt
-      go (entry e) lies (Some x) is again =
-          let e = bytes-more f fs left place in
-          let l : Lies (next-place place f) (next-place place f + bytes-of fs left) (suc n + length (rest .entries)) (Some x) =
-          subst (Lies (next-place place f) (next-place place f + bytes-of fs left) (suc n + length (rest .entries))) is again in
-          subst (Lies place to (n + suc (length (rest .entries)))) (sym is)
-          (omega (arith, l .0), omega (arith, l .1), omega (arith, l .2))
+      -- the same, of what follows the field
+      Follows : Option Fault → Type 0
+      Follows =
+          Lies (next-place place f + length (book-form written (more .entries))) (next-place place f + bytes-of fs left)
+          (suc n + length (more .entries))
 
-  -- a fault counts the entries before it, and its place is one of the bytes'
+      go : (x : Found V) → FoundLies place (next-place place f) n x →
+          FoundWrites wide written reading rewrites (field-bytes f) x → (o : Option Fault) → more .first-fault ≡ o →
+          Follows (more .first-fault) →
+          Lies (place + length (book-form written (on-found x more .entries))) to (n + length (on-found x more .entries))
+          (on-found x more .first-fault)
+      go (fault x) lies writes o is again =
+          let e = bytes-more f fs left place in
+          (omega (arith, lies .0), omega (arith, lies .1), omega (arith, lies .2))
+      go (entry e) lies writes None is again =
+          subst (Lies (place + length (entry-form written e ++ book-form written (more .entries))) to (n + suc (length (more .entries))))
+          (sym is) tt
+      go (entry e) lies writes (Some x) is again =
+          let one = bytes-more f fs left place in
+          let long = length-append (entry-form written e) (book-form written (more .entries)) in
+          let same : length (field-bytes f) ≡ length (entry-form written e) = ap length writes in
+          let l : Follows (Some x) = subst Follows is again in
+          subst (Lies (place + length (entry-form written e ++ book-form written (more .entries))) to (n + suc (length (more .entries))))
+          (sym is) (omega (arith, l .0), omega (arith, l .1), omega (arith, l .2))
+
+  -- a fault counts the entries before it, and its place is one of the bytes' after the form of those entries
   pub fault-lies : (bs : List ℕ) (x : Fault) → Bytes bs → meaning wide reading bs .first-fault ≡ Some x →
-      (x .entry ≡ length (meaning wide reading bs .entries)) × (x .place < length bs)
+      (x .entry ≡ length (meaning wide reading bs .entries))
+      × (length (book-form written (meaning wide reading bs .entries)) ≤ x .place) × (x .place < length bs)
   unfolding meaning
   fault-lies bs x b =
       cond-both (ltb 65535 (length bs)) (record { entries = []; first-fault = Some (row-fault TooMuch 0 0) })
       (row-of wide reading 0 0 bs)
-      (λ m. m .first-fault ≡ Some x → (x .entry ≡ length (m .entries)) × (x .place < length bs))
+      (λ m.
+      m .first-fault ≡ Some x →
+      (x .entry ≡ length (m .entries)) × (length (book-form written (m .entries)) ≤ x .place) × (x .place < length bs))
       (λ long is.
       let same : row-fault TooMuch 0 0 ≡ x = cc in
-      (ap (λ (y : Fault). y .entry) (sym same), subst (λ (y : Fault). y .place < length bs) same (omega (arith, ltb-true 65535 (length bs) long))))
+      let some : 0 < length bs = omega (arith, ltb-true 65535 (length bs) long) in (
+        ap (λ (y : Fault). y .entry) (sym same),
+        omega arith,
+        subst (λ (y : Fault). y .place < length bs) same some,
+      ))
       (λ _ is.
       let row = row-of wide reading 0 0 bs in
-      let l : Lies 0 (0 + bytes-of (cut bs .fields) (cut bs .left)) (0 + length (row .entries)) (Some x) =
-      subst (Lies 0 (0 + bytes-of (cut bs .fields) (cut bs .left)) (0 + length (row .entries))) is
+      let from = 0 + length (book-form written (row .entries)) in
+      let to = 0 + bytes-of (cut bs .fields) (cut bs .left) in
+      let l : Lies from to (0 + length (row .entries)) (Some x) =
+      subst (Lies from to (0 + length (row .entries))) is
       (means-lies 0 0 (cut bs .fields) (cut bs .left) (cut-bytes bs b)) in
       let n : bytes-of (cut bs .fields) (cut bs .left) ≡ length bs = ap length (uncut bs b) in
-      (omega (arith, l .0), omega (arith, l .2)))
+      (omega (arith, l .0), omega (arith, l .1), omega (arith, l .2)))

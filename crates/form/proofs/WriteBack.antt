@@ -5,12 +5,12 @@ use mathlib.Core.List.{List, [], _∷_, _++_, append-nil, append-assoc}
 use Prim.Native.Nat.{ℕ, suc, _+_}
 use native.Mathlib.Omega.{arith}
 use lib.Dec.{eqb, leb, ltb}
-use lib.ListN.{length}
+use lib.ListN.{length, take}
 use Rattle.std.specs.Finite.{All}
 use Rattle.std.specs.declared.option.Option.{Option}
 use Rattle.std.specs.declared.option.Option.the-variants.{Some, None}
 use Rattle.std.specs.shelf.Lists.{joined}
-use Rattle.std.proofs.shelf.Lists.{joined-more}
+use Rattle.std.proofs.shelf.Lists.{joined-more, take-at}
 use Rattle.std.proofs.shelf.Tests.{eqb-true, cond-both}
 use Rattle.leaf.specs.Bytes.{Bytes, two-bytes}
 use Rattle.theory.specs.Entries.{Kind, clause, cofact, Part, variable, leaf, node}
@@ -92,7 +92,7 @@ module _ {V : Type 0} (wide : ℕ) (written : V → List ℕ) (reading : List �
           (ap (field-form (f .tag)) (good .4) ∙ ap (λ t. field-form t (head ∷ body)) (good .3))
 
   -- an entry that is found is written as those bytes
-  abbrev FoundWrites : List ℕ → Found V → Type 0
+  abbrev pub FoundWrites : List ℕ → Found V → Type 0
   FoundWrites bs (entry e) = bs ≡ entry-form written e
   FoundWrites bs (fault x) = Unit {0}
 
@@ -104,7 +104,7 @@ module _ {V : Type 0} (wide : ℕ) (written : V → List ℕ) (reading : List �
   closed-writes cofact place n (complete ps head []) cs w = ap (field-form 2) w
   closed-writes cofact place n (complete ps head (b ∷ body)) cs w = tt
 
-  found-writes : (place n : ℕ) (f : Field) (o : Option Kind) → entry-kind (f .tag) ≡ o → HoldsBytes f →
+  pub found-writes : (place n : ℕ) (f : Field) (o : Option Kind) → entry-kind (f .tag) ≡ o → HoldsBytes f →
       FoundWrites (field-bytes f) (found wide reading place n f o)
   found-writes place n f None e b = tt
   found-writes place n f (Some k) e b =
@@ -149,6 +149,50 @@ module _ {V : Type 0} (wide : ℕ) (written : V → List ℕ) (reading : List �
       (row-of wide reading 0 0 bs) (λ m. m .first-fault ≡ None → bs ≡ book-form written (m .entries))
       (λ _ sound. let z : _≡_ {A = ℕ} 0 1 = cc in absurd (omega arith))
       (λ _ sound. sym (uncut bs b) ∙ means-writes 0 0 (cut bs .fields) (cut bs .left) (cut-bytes bs b) sound)
+
+  -- the entries before a fault are written as the bytes before what is left
+  means-begin : (place n : ℕ) (fs : List Field) (left : List ℕ) → All HoldsBytes fs →
+      (rest : List ℕ)
+      × (joined field-bytes fs ++ left ≡ book-form written (row-means wide reading place n fs left .entries) ++ rest)
+  means-begin place n [] [] bytes = ([], refl)
+  means-begin place n [] (b ∷ bs) bytes = (b ∷ bs, refl)
+  means-begin place n (f ∷ fs) left bytes =
+      go (found wide reading place n f (entry-kind (f .tag)))
+      (found-writes place n f (entry-kind (f .tag)) refl (bytes .0))
+      (means-begin (next-place place f) (suc n) fs left (bytes .1))
+    where
+      more : Meaning V
+      more = row-means wide reading (next-place place f) (suc n) fs left
+
+      all : List ℕ
+      all = (field-bytes f ++ joined field-bytes fs) ++ left
+
+      go : (x : Found V) → FoundWrites (field-bytes f) x →
+          ((rest : List ℕ) × (joined field-bytes fs ++ left ≡ book-form written (more .entries) ++ rest)) →
+          (rest : List ℕ) × (all ≡ book-form written (on-found x more .entries) ++ rest)
+      go (fault x) w again = (all, refl)
+      go (entry e) w again = (
+        again .0,
+        append-assoc (field-bytes f) (joined field-bytes fs) left
+            ∙ ap (λ xs. field-bytes f ++ xs) (again .1)
+            ∙ sym (append-assoc (field-bytes f) (book-form written (more .entries)) (again .0))
+            ∙ ap (λ xs. (xs ++ book-form written (more .entries)) ++ again .0) w,
+      )
+
+  -- bytes begin with the form of the entries that they mean
+  pub form-begins : (bs : List ℕ) → Bytes bs →
+      let front = book-form written (meaning wide reading bs .entries) in take (length front) bs ≡ front
+  unfolding meaning
+  form-begins bs b =
+      cond-both (ltb 65535 (length bs)) (record { entries = []; first-fault = Some (row-fault TooMuch 0 0) })
+      (row-of wide reading 0 0 bs)
+      (λ m. take (length (book-form written (m .entries))) bs ≡ book-form written (m .entries))
+      (λ _. refl)
+      (λ _.
+      let front = book-form written (row-of wide reading 0 0 bs .entries) in
+      let begins = means-begin 0 0 (cut bs .fields) (cut bs .left) (cut-bytes bs b) in
+      let e : bs ≡ front ++ begins .0 = sym (uncut bs b) ∙ begins .1 in
+      ap (take (length front)) e ∙ take-at front (begins .0) (length front) refl)
 
   -- bytes without a fault that mean the same are the same
   pub one-form : (xs ys : List ℕ) → Bytes xs → Bytes ys → meaning wide reading xs .first-fault ≡ None →

@@ -1,7 +1,8 @@
+// Theorems on the form of a book, each as a function whose contract says it.
 ghost use mathlib.Core.Path.{_≡_};
 ghost use mathlib.Core.List.{List, [], _∷_};
 ghost use Prim.Native.Nat.{ℕ, _<_, _≤_};
-ghost use lib.ListN.{length};
+ghost use lib.ListN.{length, take};
 ghost use Rattle.std.specs.declared.option.Option.the-variants.{Some, None};
 ghost use Rattle.leaf.specs.AccessionNumbers.{number-of, number-bytes};
 ghost use Rattle.leaf.specs.Bytes.{Bytes};
@@ -40,9 +41,16 @@ pub fn books_have_one_form<L: WireLeaf>() -> u8
     0
 }
 
-// A fault counts the entries before it, and its place is the number of one of the bytes.
+// Bytes with a fault or without begin with the form of the entries that they mean.
+pub fn bytes_begin_with_their_entries<L: WireLeaf>() -> u8
+    ensures { λ _. ⌜ ((bs : List ℕ) → Bytes bs → take (length (book-form (L·WireLeaf .written) (meaning (L·WireLeaf .wide) (L·WireLeaf .reading) bs .entries))) bs ≡ book-form (L·WireLeaf .written) (meaning (L·WireLeaf .wide) (L·WireLeaf .reading) bs .entries)) ⌝ }
+{
+    0
+}
+
+// A fault counts the entries before it, and its place is one of the bytes', after the form of those entries.
 pub fn faults_tell_where<L: WireLeaf>() -> u8
-    ensures { λ _. ⌜ ((bs : List ℕ) (x : FaultValue) → Bytes bs → meaning (L·WireLeaf .wide) (L·WireLeaf .reading) bs .first-fault ≡ Some x → (x .entry ≡ length (meaning (L·WireLeaf .wide) (L·WireLeaf .reading) bs .entries)) × (x .place < length bs)) ⌝ }
+    ensures { λ _. ⌜ ((bs : List ℕ) (x : FaultValue) → Bytes bs → meaning (L·WireLeaf .wide) (L·WireLeaf .reading) bs .first-fault ≡ Some x → (x .entry ≡ length (meaning (L·WireLeaf .wide) (L·WireLeaf .reading) bs .entries)) × (length (book-form (L·WireLeaf .written) (meaning (L·WireLeaf .wide) (L·WireLeaf .reading) bs .entries)) ≤ x .place) × (x .place < length bs)) ⌝ }
 {
     0
 }
