@@ -30,9 +30,9 @@ bytes-more : (f : Field) (fs : List Field) (left : List ℕ) (place : ℕ) →
     next-place place f + bytes-of fs left ≡ place + bytes-of (f ∷ fs) left
 bytes-more f fs left place =
     let x = joined field-bytes fs in
-    let a : length ((field-bytes f ++ x) ++ left) ≡ length (field-bytes f ++ x) + length left = length-append (field-bytes f ++ x) left in
-    let b : length (field-bytes f ++ x) ≡ length (field-bytes f) + length x = length-append (field-bytes f) x in
-    let c : length (x ++ left) ≡ length x + length left = length-append x left in
+    let fields = length-append (field-bytes f) x in
+    let whole = length-append (field-bytes f ++ x) left in
+    let rest = length-append x left in
     omega arith
 
 -- a fault, if there is one, counts n entries before it and lies at one of those places
@@ -84,7 +84,8 @@ module _ {V : Type 0} (wide : ℕ) (reading : List ℕ → Option V) where
       to : ℕ
       to = place + bytes-of (f ∷ fs) left
 
-      later : (end : Ending V) → EndLies (next-place place f) (next-place place f + bytes-of fs left) end → EndLies place to end
+      later : (end : Ending V) → EndLies (next-place place f) (next-place place f + bytes-of fs left) end →
+          EndLies place to end
       later end lies =
           end-wider place (next-place place f) to end (omega arith)
           (subst (λ n. EndLies (next-place place f) n end) (bytes-more f fs left place) lies)
@@ -110,7 +111,8 @@ module _ {V : Type 0} (wide : ℕ) (reading : List ℕ → Option V) where
       ap (λ xs. place + 3 + length xs) (uncut cs b) ∙ omega arith in
       let inner : EndLies (place + 3) (next-place place f) end =
       subst (λ m. EndLies (place + 3) m end) to (ending-lies [] (place + 3) (cut cs .fields) (cut cs .left)) in
-      cond-both (leb 1024 n) (fault (row-fault TooMuch place n)) (closed k place n end) (FoundLies place (next-place place f) n)
+      cond-both (leb 1024 n) (fault (row-fault TooMuch place n)) (closed k place n end)
+      (FoundLies place (next-place place f) n)
       (λ _. (refl, omega arith, omega arith))
       (λ _.
       closed-lies k place (next-place place f) n end (omega arith)
@@ -120,7 +122,8 @@ module _ {V : Type 0} (wide : ℕ) (written : V → List ℕ) (reading : List �
     (rewrites : (bs : List ℕ) (v : V) → Bytes bs → reading bs ≡ Some v → written v ≡ bs) where
   means-lies : (place n : ℕ) (fs : List Field) (left : List ℕ) → All HoldsBytes fs →
       let m = row-means wide reading place n fs left in
-      Lies (place + length (book-form written (m .entries))) (place + bytes-of fs left) (n + length (m .entries)) (m .first-fault)
+      Lies (place + length (book-form written (m .entries))) (place + bytes-of fs left) (n + length (m .entries))
+      (m .first-fault)
   means-lies place n [] [] bytes = tt
   means-lies place n [] (b ∷ bs) bytes = (omega arith, omega arith, omega arith)
   means-lies place n (f ∷ fs) left bytes =
@@ -144,20 +147,20 @@ module _ {V : Type 0} (wide : ℕ) (written : V → List ℕ) (reading : List �
       go : (x : Found V) → FoundLies place (next-place place f) n x →
           FoundWrites wide written reading rewrites (field-bytes f) x → (o : Option Fault) → more .first-fault ≡ o →
           Follows (more .first-fault) →
-          Lies (place + length (book-form written (on-found x more .entries))) to (n + length (on-found x more .entries))
-          (on-found x more .first-fault)
+          Lies (place + length (book-form written (on-found x more .entries))) to
+          (n + length (on-found x more .entries)) (on-found x more .first-fault)
       go (fault x) lies writes o is again =
           let e = bytes-more f fs left place in
           (omega (arith, lies .0), omega (arith, lies .1), omega (arith, lies .2))
       go (entry e) lies writes None is again =
-          subst (Lies (place + length (entry-form written e ++ book-form written (more .entries))) to (n + suc (length (more .entries))))
+          subst (Lies (place + length (book-form written (e ∷ more .entries))) to (n + suc (length (more .entries))))
           (sym is) tt
       go (entry e) lies writes (Some x) is again =
           let one = bytes-more f fs left place in
           let long = length-append (entry-form written e) (book-form written (more .entries)) in
           let same : length (field-bytes f) ≡ length (entry-form written e) = ap length writes in
           let l : Follows (Some x) = subst Follows is again in
-          subst (Lies (place + length (entry-form written e ++ book-form written (more .entries))) to (n + suc (length (more .entries))))
+          subst (Lies (place + length (book-form written (e ∷ more .entries))) to (n + suc (length (more .entries))))
           (sym is) (omega (arith, l .0), omega (arith, l .1), omega (arith, l .2))
 
   -- a fault counts the entries before it, and its place is one of the bytes' after the form of those entries

@@ -48,7 +48,8 @@ module _ {V : Type 0} (written : V → List ℕ) where
   abbrev pub entry-fields : List (Part V) → ℕ → List ℕ → List Field
   entry-fields ps head body = map part-field ps ++ goals-cell head body ∷ []
 
-  contents-bytes : (e : Entry V) → contents-form written e ≡ joined field-bytes (entry-fields (e .parts) (e .head) (e .body))
+  contents-bytes : (e : Entry V) →
+      contents-form written e ≡ joined field-bytes (entry-fields (e .parts) (e .head) (e .body))
   contents-bytes e =
       let last = goals-form written (e .head) (e .body) in
       ap (λ xs. xs ++ last) (parts-bytes (e .parts))
@@ -88,5 +89,6 @@ module _ {V : Type 0} (written : V → List ℕ) where
         let few : length (e .body) ≤ 8 = r .few-goals in
         ap cut (contents-bytes e)
         ∙ recut (entry-fields (e .parts) (e .head) (e .body))
-        (all-join Short (map part-field (e .parts)) (goals-cell (e .head) (e .body) ∷ []) (parts-short 0 (e .parts) (r .parts))
+        (all-join Short (map part-field (e .parts)) (goals-cell (e .head) (e .body) ∷ [])
+        (parts-short 0 (e .parts) (r .parts))
         (omega arith, tt))

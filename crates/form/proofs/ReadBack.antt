@@ -71,7 +71,8 @@ module _ {V : Type 0} (wide : ℕ) (written : V → List ℕ) (reading : List �
       let short : leb n 6 ≡ true = le-leb n 6 (omega arith) in
       let symbol : f / 256 * 256 + f % 256 ≡ f = omega arith in
       judged-good
-      (record { cause = WrongLength; fails = not (between 2 n 6) } ∷ record { cause = TooMuch; fails = leb 64 (length ps) }
+      (record { cause = WrongLength; fails = not (between 2 n 6) }
+      ∷ record { cause = TooMuch; fails = leb 64 (length ps) }
       ∷ record { cause = WrongCell; fails = not (every (λ a. ltb a (length ps)) args) } ∷ [])
       (cell (node (f / 256 * 256 + f % 256) args)) (
         not-from-true (between 2 n 6) (and-from (leb 2 n) (leb n 6) long short),
@@ -135,9 +136,12 @@ module _ {V : Type 0} (wide : ℕ) (written : V → List ℕ) (reading : List �
       found wide reading place n (entry-field written e) (entry-kind (entry-field written e .tag)) ≡ entry e
   found-back place n e few r =
       let f = entry-field written e in
-      let end : ending-of wide reading [] (place + 3) (contents-form written e) ≡ complete (e .parts) (e .head) (e .body) =
-      ap (λ (x : Row). ending wide reading [] (place + 3) (x .fields) (x .left)) (cut-entry written wide narrow even e r)
-      ∙ ending-back [] (e .parts) (place + 3) (e .head) (e .body) (omega (arith, r .few-parts)) (r .parts) (r .few-goals) (r .head) (r .goals) in
+      let cs = contents-form written e in
+      let end : ending-of wide reading [] (place + 3) cs ≡ complete (e .parts) (e .head) (e .body) =
+      ap (λ (x : Row). ending wide reading [] (place + 3) (x .fields) (x .left))
+      (cut-entry written wide narrow even e r)
+      ∙ ending-back [] (e .parts) (place + 3) (e .head) (e .body) (omega (arith, r .few-parts)) (r .parts)
+      (r .few-goals) (r .head) (r .goals) in
       ap (found wide reading place n f) (kind-back (e .kind))
       ∙ cond-false (leb 1024 n) (fault (row-fault TooMuch place n))
       (closed (e .kind) place n (ending-of wide reading [] (place + 3) (contents-form written e))) (lt-leb 1024 n few)

@@ -38,8 +38,11 @@ most-bytes : (n : ℕ) (bs : List ℕ) → Bytes bs → All HoldsBytes (cut-most
 most-bytes zero bs b = tt
 most-bytes (suc n) bs b = go (whole bs) (most-bytes n (after-field bs) (bytes-drop (3 + size bs) bs b))
   where
-    go : (w : Bool) → All HoldsBytes (cut-most n (after-field bs) .fields) →
-        All HoldsBytes (cond w (put (first-field bs) (cut-most n (after-field bs))) (record { fields = []; left = bs }) .fields)
+    rest : Row
+    rest = cut-most n (after-field bs)
+
+    go : (w : Bool) → All HoldsBytes (rest .fields) →
+        All HoldsBytes (cond w (put (first-field bs) rest) (record { fields = []; left = bs }) .fields)
     go true h = (bytes-take (size bs) (drop 3 bs) (bytes-drop 3 bs b), h)
     go false h = tt
 

@@ -49,7 +49,8 @@ module _ {V : Type 0} where
   FoundKeeps n (entry e) = (n < 1024) × EntryRules e
   FoundKeeps n (fault x) = Unit {0}
 
-  closed-keeps : (k : Kind) (place n : ℕ) (end : Ending V) → n < 1024 → EndKeeps end → FoundKeeps n (closed k place n end)
+  closed-keeps : (k : Kind) (place n : ℕ) (end : Ending V) → n < 1024 → EndKeeps end →
+      FoundKeeps n (closed k place n end)
   closed-keeps k place n (bad c at) few h = tt
   closed-keeps k place n unended few h = tt
   closed-keeps clause place n (complete ps head body) few h = (
@@ -84,7 +85,8 @@ module _ {V : Type 0} (wide : ℕ) (reading : List ℕ → Option V) where
   ending-keeps ps place [] [] few rules bytes = tt
   ending-keeps ps place [] (b ∷ bs) few rules bytes = tt
   ending-keeps ps place (f ∷ fs) left few rules bytes =
-      go (seen wide reading ps (f .contents) (shape (f .tag))) (seen-good wide reading ps (f .tag) (f .contents) (bytes .0))
+      go (seen wide reading ps (f .contents) (shape (f .tag)))
+      (seen-good wide reading ps (f .tag) (f .contents) (bytes .0))
       (λ p. ending-keeps (ps ++ p ∷ []) (next-place place f) fs left)
     where
       go : (s : Seen V) → Good wide reading ps (f .tag) (f .contents) s →
@@ -100,7 +102,8 @@ module _ {V : Type 0} (wide : ℕ) (reading : List ℕ → Option V) where
           goals-keep ps head body (next-place place f) fs left (few, rules, good .0, good .2, good .1)
 
   -- what a field of the book's row is found to be keeps the rules
-  pub found-keeps : (place n : ℕ) (f : Field) (o : Option Kind) → HoldsBytes f → FoundKeeps n (found wide reading place n f o)
+  pub found-keeps : (place n : ℕ) (f : Field) (o : Option Kind) → HoldsBytes f →
+      FoundKeeps n (found wide reading place n f o)
   found-keeps place n f None b = tt
   found-keeps place n f (Some k) b =
       let end = ending-of wide reading [] (place + 3) (f .contents) in
@@ -134,7 +137,8 @@ module _ {V : Type 0} (wide : ℕ) (reading : List ℕ → Option V) where
       rest = row-means wide reading (next-place place f) (suc n) fs left
 
       go : (x : Found V) → FoundKeeps n x →
-          (suc n ≤ 1024 → All HoldsBytes fs → (suc n + length (rest .entries) ≤ 1024) × All EntryRules (rest .entries)) →
+          (suc n ≤ 1024 → All HoldsBytes fs →
+          (suc n + length (rest .entries) ≤ 1024) × All EntryRules (rest .entries)) →
           (n + length (on-found x rest .entries) ≤ 1024) × All EntryRules (on-found x rest .entries)
       go (fault x) keeps again = (omega arith, tt)
       go (entry e) keeps again =
@@ -142,7 +146,8 @@ module _ {V : Type 0} (wide : ℕ) (reading : List ℕ → Option V) where
           (omega (arith, more .0), (keeps .1, more .1))
 
   -- the same, of bytes
-  pub row-rules : (place n : ℕ) (bs : List ℕ) → n ≤ 1024 → Bytes bs → BookRules (row-of wide reading place n bs .entries)
+  pub row-rules : (place n : ℕ) (bs : List ℕ) → n ≤ 1024 → Bytes bs →
+      BookRules (row-of wide reading place n bs .entries)
   row-rules place n bs few b =
       let keeps = means-keeps place n (cut bs .fields) (cut bs .left) few (cut-bytes bs b) in
       record { few = omega (arith, keeps .0); entries = keeps .1 }

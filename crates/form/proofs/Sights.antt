@@ -119,7 +119,8 @@ module _ {V : Type 0} (wide : ℕ) (reading : List ℕ → Option V) where
     seen-good bs b =
         let P : Option Shape → Type 0 = λ o. Good ps tag bs (seen wide reading ps bs o) in
         cond-both (eqb tag 16) (Some variable-field)
-        (cond (eqb tag 17) (Some leaf-field) (cond (eqb tag 18) (Some node-field) (cond (eqb tag 19) (Some goals-field) None))) P
+        (cond (eqb tag 17) (Some leaf-field)
+        (cond (eqb tag 18) (Some node-field) (cond (eqb tag 19) (Some goals-field) None))) P
         (λ e. variable-good bs (eqb-true tag 16 e))
         (λ _.
         cond-both (eqb tag 17) (Some leaf-field)

@@ -52,8 +52,8 @@ module _ {V : Type 0} (wide : ℕ) (written : V → List ℕ) (reading : List �
   EndWrites bs unended = Unit {0}
   EndWrites bs (complete ps head body) = bs ≡ cells ps ++ goals-form written head body
 
-  goals-write : (ps : List (Part V)) (head : ℕ) (body : List ℕ) (after : ℕ) (f : Field) (fs : List Field) (left : List ℕ) →
-      field-bytes f ≡ goals-form written head body →
+  goals-write : (ps : List (Part V)) (head : ℕ) (body : List ℕ) (after : ℕ) (f : Field) (fs : List Field)
+      (left : List ℕ) → field-bytes f ≡ goals-form written head body →
       EndWrites (cells ps ++ ((field-bytes f ++ joined field-bytes fs) ++ left)) (goals-end ps head body after fs left)
   goals-write ps head body after f [] [] e =
       ap (λ xs. cells ps ++ xs)
@@ -66,7 +66,8 @@ module _ {V : Type 0} (wide : ℕ) (written : V → List ℕ) (reading : List �
   ending-writes ps place [] [] bytes = tt
   ending-writes ps place [] (b ∷ bs) bytes = tt
   ending-writes ps place (f ∷ fs) left bytes =
-      go (seen wide reading ps (f .contents) (shape (f .tag))) (seen-good wide reading ps (f .tag) (f .contents) (bytes .0))
+      go (seen wide reading ps (f .contents) (shape (f .tag)))
+      (seen-good wide reading ps (f .tag) (f .contents) (bytes .0))
       (λ p. ending-writes (ps ++ p ∷ []) (next-place place f) fs left (bytes .1))
     where
       rest : List ℕ
@@ -74,7 +75,8 @@ module _ {V : Type 0} (wide : ℕ) (written : V → List ℕ) (reading : List �
 
       go : (s : Seen V) → Good wide reading ps (f .tag) (f .contents) s →
           ((p : Part V) →
-          EndWrites (cells (ps ++ p ∷ []) ++ (rest ++ left)) (ending wide reading (ps ++ p ∷ []) (next-place place f) fs left)) →
+          EndWrites (cells (ps ++ p ∷ []) ++ (rest ++ left))
+          (ending wide reading (ps ++ p ∷ []) (next-place place f) fs left)) →
           EndWrites (cells ps ++ ((field-bytes f ++ rest) ++ left))
           (on-seen s place (λ p. ending wide reading (ps ++ p ∷ []) (next-place place f) fs left)
           (λ head body. goals-end ps head body (next-place place f) fs left))
@@ -113,7 +115,8 @@ module _ {V : Type 0} (wide : ℕ) (written : V → List ℕ) (reading : List �
       let row : EndWrites cs end =
       subst (λ xs. EndWrites xs end) (uncut cs b)
       (ending-writes [] (place + 3) (cut cs .fields) (cut cs .left) (cut-bytes cs b)) in
-      cond-both (leb 1024 n) (fault (row-fault TooMuch place n)) (closed k place n end) (FoundWrites (field-bytes f)) (λ _. tt)
+      cond-both (leb 1024 n) (fault (row-fault TooMuch place n)) (closed k place n end)
+      (FoundWrites (field-bytes f)) (λ _. tt)
       (λ _.
       subst (λ t. FoundWrites (field-form t cs) (closed k place n end)) (sym (kind-tag (f .tag) k e))
       (closed-writes k place n end cs row))
@@ -124,7 +127,8 @@ module _ {V : Type 0} (wide : ℕ) (written : V → List ℕ) (reading : List �
   means-writes place n [] [] bytes sound = refl
   means-writes place n [] (b ∷ bs) bytes sound = let z : _≡_ {A = ℕ} 0 1 = cc in absurd (omega arith)
   means-writes place n (f ∷ fs) left bytes sound =
-      go (found wide reading place n f (entry-kind (f .tag))) (found-writes place n f (entry-kind (f .tag)) refl (bytes .0))
+      go (found wide reading place n f (entry-kind (f .tag)))
+      (found-writes place n f (entry-kind (f .tag)) refl (bytes .0))
       (means-writes (next-place place f) (suc n) fs left (bytes .1)) sound
     where
       rest : Meaning V
@@ -198,7 +202,8 @@ module _ {V : Type 0} (wide : ℕ) (written : V → List ℕ) (reading : List �
   pub one-form : (xs ys : List ℕ) → Bytes xs → Bytes ys → meaning wide reading xs .first-fault ≡ None →
       meaning wide reading xs ≡ meaning wide reading ys → xs ≡ ys
   one-form xs ys b d sound same =
-      let too : meaning wide reading ys .first-fault ≡ None = ap (λ (m : Meaning V). m .first-fault) (sym same) ∙ sound in
+      let too : meaning wide reading ys .first-fault ≡ None =
+      ap (λ (m : Meaning V). m .first-fault) (sym same) ∙ sound in
       write-back xs b sound
       ∙ ap (λ (m : Meaning V). book-form written (m .entries)) same
       ∙ sym (write-back ys d too)

@@ -25,4 +25,8 @@ abbrev pub sample-cut-off : List ℕ
 sample-cut-off = take 15 sample-bytes
 
 abbrev pub cut-off-meaning : Meaning AccessionNumber
-cut-off-meaning = record { entries = []; first-fault = Some (record { cause = PastEnd; place = 0; entry = 0; layer = layers.Book }) }
+cut-off-meaning =
+    record {
+      entries = [];
+      first-fault = Some (record { cause = PastEnd; place = 0; entry = 0; layer = layers.Book });
+    }
