@@ -1,2 +1,11 @@
+pub mod Bytewise
 pub mod Cuts
+pub mod Faults
+pub mod PartFields
+pub mod ReadBack
+pub mod Rows
+pub mod Rules
+pub mod Samples
+pub mod Sights
 pub mod Steps
+pub mod WriteBack

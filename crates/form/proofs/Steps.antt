@@ -16,7 +16,7 @@ use Rattle.form.specs.Fields.{Field, Row, whole, first-field, after-field, put
 use Rattle.form.specs.Meanings.{Ending, bad, unended, complete, Meaning, goals-end, on-seen, on-found, next-place, row-fault, entry-kind, shape, seen, ending, ending-of, found, row-means, row-of, meaning}
 use Rattle.form.proofs.Cuts.{cut-whole, cut-part}
 
-cut-nil : cut [] ≡ record { fields = []; left = [] }
+pub cut-nil : cut [] ≡ record { fields = []; left = [] }
 cut-nil = cut-part [] refl
 
 module _ {V : Type 0} where

@@ -2,3 +2,4 @@ pub mod Fields
 pub mod Forms
 pub mod Meanings
 pub mod Numbers
+pub mod Samples
