@@ -1,10 +1,28 @@
 -- What holds of each element of a list, and small facts, beside the lemmas of the shelf.
-use mathlib.Core.Path.{_≡_}
+use mathlib.Core.Path.{_≡_, sym, ap, subst}
 use mathlib.Core.List.{List, [], _∷_, _++_, map}
 use Prim.Native.Nat.{ℕ, zero, suc}
 use native.Mathlib.Omega.{arith}
 use lib.ListN.{getD}
-use Rattle.std.specs.Finite.{All}
+use Rattle.std.specs.Finite.{nth, All}
+use Rattle.std.specs.declared.option.Option.{Option}
+use Rattle.std.specs.declared.option.Option.the-variants.{Some, None}
+
+abbrev IsSome : {A : Type 0} → Option A → Type 0
+IsSome None = ⊥
+IsSome (Some a) = Unit {0}
+
+-- nothing is not something
+pub none-some : {A : Type 0} {a : A} → Path (Option A) None (Some a) → ⊥
+none-some q = subst IsSome (sym q) tt
+
+abbrev some-or : {A : Type 0} → A → Option A → A
+some-or d None = d
+some-or d (Some a) = a
+
+-- something is one thing
+pub some-inj : {A : Type 0} {a b : A} → Path (Option A) (Some a) (Some b) → a ≡ b
+some-inj {a = a} q = ap (some-or a) q
 
 module _ {K : Type 0} (P : K → Type 0) where
   -- of the front of a joined list
@@ -22,6 +40,12 @@ module _ {K : Type 0} (P : K → Type 0) where
   all-or [] d a p i = p
   all-or (x ∷ l) d a p zero = a .0
   all-or (x ∷ l) d a p (suc i) = all-or l d (a .1) p i
+
+  -- of an element that was found
+  pub all-nth : (l : List K) (i : ℕ) (x : K) → All P l → nth l i ≡ Some x → P x
+  all-nth [] i x a f = absurd (none-some f)
+  all-nth (y ∷ l) zero x a f = subst P (some-inj f) (a .0)
+  all-nth (y ∷ l) (suc i) x a f = all-nth l i x (a .1) f
 
   -- of every element, if it holds of all there are
   pub all-any : ((x : K) → P x) → (l : List K) → All P l

@@ -17,11 +17,10 @@ use Rattle.theory.specs.Entries.{Entry, Part, variable, leaf, node, PartsRules
 use Rattle.theory.specs.Records.{Step, Term, cell, part, Goal, goal-at, goal-below, Replay, start, made, expand, close}
 use Rattle.theory.specs.Records.{Leads, together}
 use Rattle.theory.specs.Known.{Names, placed}
-use Rattle.theory.proofs.Elements.{all-or}
+use Rattle.theory.proofs.Elements.{all-or, all-nth}
 use Rattle.theory.proofs.Readings.{meets-left, meets-right, meets-both, names-weaker, all-names-weaker}
 use Rattle.theory.proofs.Readings.{Agrees, there-all, back-all}
 use Rattle.theory.proofs.Steps.{Took, clause-step, loop-step, entry-step, took}
-use Rattle.theory.proofs.Tries.{none-some, some-inj}
 use Rattle.theory.proofs.NewCells.{choose}
 
 -- what holds of the cells of an instance holds of the terms that it names
@@ -44,12 +43,6 @@ module _ {V : Type 0} where
   is-part [] k h = absurd h
   is-part (p ∷ ps) zero h = omega arith
   is-part (p ∷ ps) (suc k) h = let w : k < length ps = is-part ps k h in omega arith
-
-  -- an entry of a book keeps the rules
-  entry-rules : (l : List (Entry V)) (n : ℕ) (e : Entry V) → All EntryRules l → nth l n ≡ Some e → EntryRules e
-  entry-rules [] n e a f = absurd (none-some f)
-  entry-rules (x ∷ l) zero e a f = subst EntryRules (some-inj f) (a .0)
-  entry-rules (x ∷ l) (suc n) e a f = entry-rules l n e (a .1) f
 
 -- a reading v of a record's terms, over a slate with so many cells in use
 module _ {V : Type 0} (used : ℕ) (v : Term → Tree V) (trees : (t : Term) → IsTree (v t)) where
@@ -219,10 +212,10 @@ module _ {V : Type 0} (used : ℕ) (v : Term → Tree V) (trees : (t : Term) →
   module _ (book : List (Entry V)) (rules : BookRules book) where
     laid-step : (r : Replay V) (ρ : ℕ → Tree V) (x : Step) (m : Replay V) → Took book r x m → Laid r ρ → Laid m (next r ρ)
     laid-step r ρ x m (clause-step g rest n e p i f c) l =
-        laid-expand r ρ g rest e p (entry-rules book n e (rules .entries) f) l
+        laid-expand r ρ g rest e p (all-nth EntryRules book n e (rules .entries) f) l
     laid-step r ρ x m (loop-step g rest n p i f) l = laid-close r ρ g rest n p l
     laid-step r ρ x m (entry-step g rest n e p i f) l =
-        laid-expand r ρ g rest e p (entry-rules book n e (rules .entries) f) l
+        laid-expand r ρ g rest e p (all-nth EntryRules book n e (rules .entries) f) l
 
     laid : (r : Replay V) (ρ : ℕ → Tree V) (xs : List Step) (t : Replay V) → Leads book r xs t → Laid r ρ →
         (σ : ℕ → Tree V) × Laid t σ

@@ -13,28 +13,13 @@ use Rattle.std.proofs.shelf.Tests.{true≢false, false≢true, eqb-true, eq-eqb
 use Rattle.theory.specs.Entries.{Entry, Kind, clause, cofact}
 use Rattle.theory.specs.Records.{Step, step-of, Goal, Replay, went, step, expand, close, member}
 use Rattle.theory.specs.Search.{tries, tries-of, clauses-from, entries-from, Among}
+use Rattle.theory.proofs.Elements.{none-some, some-inj}
 use Rattle.theory.proofs.Steps.{Took, clause-step, loop-step, entry-step, took, goes}
 
 -- the step stands in the list, by recursion on the list
 abbrev pub In : Step → List Step → Type 0
 In x [] = ⊥
 In x (y ∷ ys) = (x ≡ y) ⊎ In x ys
-
-abbrev IsSome : {A : Type 0} → Option A → Type 0
-IsSome None = ⊥
-IsSome (Some a) = Unit {0}
-
--- nothing is not something
-pub none-some : {A : Type 0} {a : A} → Path (Option A) None (Some a) → ⊥
-none-some q = subst IsSome (sym q) tt
-
-abbrev some-or : {A : Type 0} → A → Option A → A
-some-or d None = d
-some-or d (Some a) = a
-
--- something is one thing
-pub some-inj : {A : Type 0} {a b : A} → Path (Option A) (Some a) (Some b) → a ≡ b
-some-inj {a = a} q = ap (some-or a) q
 
 among-in : (x : Step) (xs : List Step) (k : ℕ) → nth xs k ≡ Some x → In x xs
 among-in x [] k q = absurd (none-some q)
