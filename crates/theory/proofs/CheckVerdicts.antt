@@ -155,7 +155,8 @@ module _ {V : Type 0} (book : List (Entry V)) (known : List (Equation V ℕ)) (f
       go (went m) (inr (n, (t, h))) = never (cc)
 
   -- where it ends by naming a rule, the next step breaks the rule
-  ends-unlawful : (i j rule : ℕ) (v : Verdict) (r : Replay V) (xs : List Step) → v ≡ unlawful j rule → Ends i v r xs →
+  ends-unlawful : (i j rule : ℕ) (v : Verdict) (r : Replay V) (xs : List Step) → v ≡ unlawful j rule →
+      Ends i v r xs →
       (i ≡ j) × BreaksNext book known free r xs rule
   ends-unlawful i j rule v r [] p h = go (r .pending) refl h
     where
@@ -185,7 +186,8 @@ module _ {V : Type 0} (book : List (Entry V)) (known : List (Equation V ℕ)) (f
       go (went m) (inr (n, (t, h))) = never (cc)
 
   -- and the other way round
-  breaks-named : (rest : List Step) (r : Replay V) (i rule : ℕ) (v : Verdict) → BreaksNext book known free r rest rule →
+  breaks-named : (rest : List Step) (r : Replay V) (i rule : ℕ) (v : Verdict) →
+      BreaksNext book known free r rest rule →
       CheckFrom book known free r i rest v → v ≡ unlawful i rule
   breaks-named [] r i rule v (six, n) g = go (r .pending) refl g
     where
@@ -230,7 +232,8 @@ module _ {V : Type 0} (book : List (Entry V)) (known : List (Equation V ℕ)) (f
         let leads : Leads book (start goals) steps (stop .at) =
         subst (λ l. Leads book (start goals) l (stop .at)) whole (stop .leads) in (
           record { last = stop .at; leads = leads; done = e .1; solvable = stop .solvable },
-          subst (λ r. r .cells ≤ free) (sym (leads-replay book (start goals) steps (stop .at) leads)) (stop .cells),
+          subst (λ r. r .cells ≤ free) (sym (leads-replay book (start goals) steps (stop .at) leads))
+              (stop .cells),
         )
 
     from-fitting : Fitting book known free goals steps → v ≡ passed

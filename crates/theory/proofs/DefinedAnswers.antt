@@ -17,10 +17,12 @@ use Rattle.theory.specs.Records.{Step}
 use Rattle.theory.specs.Search.{Outcome, granted, failed, spent, full, short, Solve}
 use Rattle.theory.specs.Check.{If, Verdict, Check}
 use Rattle.theory.specs.Calls.{Call, write-node, equate, compare, solve, check}
-use Rattle.theory.specs.Calls.{Refusal, not-in-use, too-many-arguments, not-an-atom, too-long, too-short, clash, number}
+use Rattle.theory.specs.Calls.{Refusal, not-in-use, too-many-arguments, not-an-atom, too-long, too-short}
+use Rattle.theory.specs.Calls.{clash, number}
 use Rattle.theory.specs.Calls.{Answer, wrote, accepted, same, different, grants, fails, refused}
 use Rattle.theory.specs.Known.{Known}
-use Rattle.theory.specs.Answers.{capacity, first-unused, answer-of, answer-to, UsedOr, AtomsOr, NextCell, limits, Defined}
+use Rattle.theory.specs.Answers.{capacity, first-unused, answer-of, answer-to, UsedOr, AtomsOr, NextCell}
+use Rattle.theory.specs.Answers.{limits, Defined}
 use Rattle.theory.specs.Sittings.{NotTaken}
 use Rattle.theory.proofs.Elements.{never}
 
@@ -29,7 +31,8 @@ all-used : (used : ℕ) (cs : List ℕ) → first-unused used cs ≡ None → Al
 all-used used [] e = tt
 all-used used (c ∷ cs) e = go (ltb c used) refl e (all-used used cs)
   where
-    go : (b : Bool) → ltb c used ≡ b → Path (Option ℕ) (elim b [ true ↦ first-unused used cs | false ↦ Some c ]) None →
+    go : (b : Bool) → ltb c used ≡ b →
+        Path (Option ℕ) (elim b [ true ↦ first-unused used cs | false ↦ Some c ]) None →
         (first-unused used cs ≡ None → All (λ c. c < used) cs) → All (λ c. c < used) (c ∷ cs)
     go true q f later = (ltb-true c used q, later f)
     go false q f later = never (cc)
@@ -80,7 +83,11 @@ module _ {V : Type 0} (book : List (Entry V)) (supplied : ℕ) (k : Known V) whe
   -- a node was written over cells in use, at most four
   pub of-node : (f : ℕ) (args : List ℕ) (c : ℕ) → Defined book supplied k (write-node f args) (wrote c) →
       (f < 65536) × InUse k args
-  of-node f args c (hf, d) = (hf, taken no (then (unless (wrote c) too-many-arguments (lit≤ tt) d) (λ q. used-cells k args (wrote c) _ q)) .0)
+  of-node f args c (hf, d) = (
+    hf,
+    taken no
+        (then (unless (wrote c) too-many-arguments (lit≤ tt) d) (λ q. used-cells k args (wrote c) _ q)) .0,
+  )
     where
       no : NotTaken (wrote c) → ⊥
       no = not-taken (wrote c) (λ r e. never (cc))
@@ -120,7 +127,8 @@ module _ {V : Type 0} (book : List (Entry V)) (supplied : ℕ) (k : Known V) whe
       then (unless a too-short (lit≤ tt) q) (λ y. inr (z .0, y)))))
 
   pub of-granted : (goals : List ℕ) (b s w f n : ℕ) (steps : List Step) →
-      Defined book supplied k (solve goals b s w f) (grants n steps) → InUse k goals × SolveOf goals b s (granted n steps)
+      Defined book supplied k (solve goals b s w f) (grants n steps) →
+      InUse k goals × SolveOf goals b s (granted n steps)
   of-granted goals b s w f n steps d = fin (taken no (of-solve goals b s w f (grants n steps) d))
     where
       no : NotTaken (grants n steps) → ⊥
@@ -151,7 +159,8 @@ module _ {V : Type 0} (book : List (Entry V)) (supplied : ℕ) (k : Known V) whe
       same-outcome (full m) e = never (cc)
       same-outcome (short m) e = never (cc)
 
-      fin : InUse k goals × ((o : Outcome) × SolveOf goals b s o × (fails n ≡ answer-of o)) → SolveOf goals b s (failed n)
+      fin : InUse k goals × ((o : Outcome) × SolveOf goals b s o × (fails n ≡ answer-of o)) →
+          SolveOf goals b s (failed n)
       fin (u, (o, t, e)) = subst (SolveOf goals b s) (same-outcome o e) t
 
   -- the verdict that a check came to

@@ -42,8 +42,8 @@ module _ {A : Type 0} where
       i (le-of-suc-le-suc h))
 
 module _ {V : Type 0} (book : List (Entry V)) where
-  -- a derivation of a tree below some ancestors: an instance of a clause with derivations of its body trees, or the
-  -- tree of an ancestor, which then needs a finite proof of its own
+  -- a derivation of a tree below some ancestors: an instance of a clause with derivations of its body trees,
+  -- or the tree of an ancestor, which then needs a finite proof of its own
   pub data Derivation : List (Tree V) → Tree V → Type 0 where
     expands : {above : List (Tree V)} {t : Tree V} (k : ℕ) (e : Entry V) →
         nth book k ≡ Some e →
@@ -108,7 +108,8 @@ module _ {V : Type 0} (book : List (Entry V)) where
   listed t [] = tt
   listed t (x ∷ l) = (
     (0, λ p. refl),
-    all-weaker (Member (λ m. getD l m t)) (Member (λ m. getD (x ∷ l) m t)) (λ u w. (suc (w .0), w .1)) l (listed t l),
+    all-weaker (Member (λ m. getD l m t)) (Member (λ m. getD (x ∷ l) m t)) (λ u w. (suc (w .0), w .1)) l
+        (listed t l),
   )
 
   -- a derived tree with no ancestors is held, in the set of the expanded trees

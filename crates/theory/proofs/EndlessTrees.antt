@@ -47,7 +47,8 @@ module _ {V : Type 0} where
   next-bare t is q j d = bare (t (q ++ (j ∷ []))) (λ h. d (is .up q j h))
 
   -- a tree has no label below an argument place that it lacks
-  pub all-bare : (t : Tree V) → IsTree t → (r q : List ℕ) (j : ℕ) → (Branches (t q) j → ⊥) → t (q ++ (j ∷ r)) ≡ None
+  pub all-bare : (t : Tree V) → IsTree t → (r q : List ℕ) (j : ℕ) → (Branches (t q) j → ⊥) →
+      t (q ++ (j ∷ r)) ≡ None
   all-bare t is [] q j d = next-bare t is q j d
   all-bare t is (k ∷ r) q j d =
       ap t (sym (append-assoc q (j ∷ []) (k ∷ r)))

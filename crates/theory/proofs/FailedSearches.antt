@@ -7,7 +7,8 @@ use Rattle.std.specs.Finite.{All}
 use Rattle.theory.specs.Equations.{Equation, Solvable}
 use Rattle.theory.specs.Entries.{Entry}
 use Rattle.theory.specs.Records.{Step, Replay, start, Leads, Lawful, together}
-use Rattle.theory.specs.Search.{tries, Point, Limits, Outcome, granted, failed, spent, full, short, Searches, Solve}
+use Rattle.theory.specs.Search.{tries, Point, Limits, Outcome, granted, failed, spent, full, short, Searches}
+use Rattle.theory.specs.Search.{Solve}
 use Rattle.theory.specs.Search.{Stuck, May, without}
 use Rattle.theory.specs.Search.{done, exhausted, back, out-of-tries, out-of-steps, out-of-cells, falls, stands}
 use Rattle.theory.proofs.Steps.{took, went-inj}

@@ -11,7 +11,8 @@ use Rattle.std.proofs.shelf.Lists.{length-push}
 use Rattle.theory.specs.Equations.{Equation, Solvable}
 use Rattle.theory.specs.Entries.{Entry}
 use Rattle.theory.specs.Records.{Step, Replay, start, Leads, together}
-use Rattle.theory.specs.Search.{Point, Limits, Outcome, granted, failed, spent, full, short, Searches, Solve, Found, May}
+use Rattle.theory.specs.Search.{Point, Limits, Outcome, granted, failed, spent, full, short, Searches, Solve}
+use Rattle.theory.specs.Search.{Found, May}
 use Rattle.theory.specs.Search.{without, onward}
 use Rattle.theory.specs.Search.{done, exhausted, back, out-of-tries, out-of-steps, out-of-cells, falls, stands}
 use Rattle.theory.proofs.Replays.{leads-push, leads-replay, started}
@@ -54,7 +55,8 @@ module _ {V : Type 0} (book : List (Entry V)) (known : List (Equation V ℕ)) (l
   finds (done {p = p} e) b r a = record {
     lawful = record { last = p .at; leads = r .leads; done = e; solvable = r .solvable };
     cells =
-        subst (λ t. t .cells ≤ lim .free) (sym (leads-replay book (start goals) (p .steps) (p .at) (r .leads))) (r .cells);
+        let e = leads-replay book (start goals) (p .steps) (p .at) (r .leads) in
+        subst (λ t. t .cells ≤ lim .free) (sym e) (r .cells);
     room = r .room;
     tried = r .tried;
     budget = b;
@@ -94,5 +96,11 @@ module _ {V : Type 0} (book : List (Entry V)) (known : List (Equation V ℕ)) (l
       Found book known lim goals n steps
   granted-found n steps s t =
       finds t (omega arith)
-      (record { leads = refl; solvable = started known goals s; cells = omega arith; room = omega arith; tried = omega arith })
+      (record {
+        leads = refl;
+        solvable = started known goals s;
+        cells = omega arith;
+        room = omega arith;
+        tried = omega arith;
+      })
       tt

@@ -16,7 +16,8 @@ use Rattle.theory.specs.Equations.{Equation, equal, Solves, MeetsAll}
 use Rattle.theory.specs.Entries.{Entry, clause, Instance, instance-of}
 use Rattle.theory.specs.Held.{FiniteProof, Held}
 use Rattle.theory.specs.Held as H
-use Rattle.theory.specs.Records.{Step, Term, cell, part, Goal, goal-at, goal-below, Replay, start, made, expand, close}
+use Rattle.theory.specs.Records.{Step, Term, cell, part, Goal, goal-at, goal-below, Replay, start, made}
+use Rattle.theory.specs.Records.{expand, close}
 use Rattle.theory.specs.Records.{member, Leads}
 use Rattle.theory.proofs.Elements.{all-left, all-right, all-any, all-unmap}
 use Rattle.theory.proofs.Readings.{meets-left, meets-right, meets-unrenamed}
@@ -39,7 +40,8 @@ module _ {V : Type 0} where
   still-taken : (r : Replay V) (t : Term) (path : List ℕ) →
       All (λ n. n < length (r .taken)) path → All (λ n. n < length (r .taken ++ (t ∷ []))) path
   still-taken r t path a =
-      all-weaker (λ n. n < length (r .taken)) (λ n. n < length (r .taken ++ (t ∷ []))) (one-more (r .taken) t) path a
+      all-weaker (λ n. n < length (r .taken)) (λ n. n < length (r .taken ++ (t ∷ [])))
+      (one-more (r .taken) t) path a
 
   paths-expand : (r : Replay V) (g : Goal) (rest : List Goal) (e : Entry V) →
       All (PathTaken r) (g ∷ rest) → PathsTaken (expand r g rest e)
@@ -50,15 +52,20 @@ module _ {V : Type 0} where
       subst (λ k. s < k) (sym (length-push (r .taken) (g .term))) (omega arith) in
       all-append (PathTaken m) (map (goal-below s g) (e .body)) rest
       (all-map (PathTaken m) (goal-below s g) (e .body)
-      (all-any (λ b. PathTaken m (goal-below s g b)) (λ b. (now, still-taken r (g .term) (g .path) (o .0))) (e .body)))
+      (all-any (λ b. PathTaken m (goal-below s g b)) (λ b. (now, still-taken r (g .term) (g .path) (o .0)))
+      (e .body)))
       (all-weaker (PathTaken r) (PathTaken m) (λ h. still-taken r (g .term) (h .path)) rest (o .1))
 
   paths-close : (r : Replay V) (g : Goal) (rest : List Goal) (n : ℕ) →
       All (PathTaken r) (g ∷ rest) → PathsTaken (close r g rest n)
-  paths-close r g rest n o =
-      (tt, all-weaker (PathTaken r) (PathTaken (close r g rest n)) (λ h. still-taken r (g .term) (h .path)) rest (o .1))
+  paths-close r g rest n o = (
+    tt,
+    all-weaker (PathTaken r) (PathTaken (close r g rest n))
+        (λ h. still-taken r (g .term) (h .path)) rest (o .1),
+  )
 
-module _ {V : Type 0} (book : List (Entry V)) (v : Term → Tree V) (last : Replay V) (sol : Solves (last .equations) v) where
+module _ {V : Type 0} (book : List (Entry V))
+    (v : Term → Tree V) (last : Replay V) (sol : Solves (last .equations) v) where
   -- the tree of the goal that a step took
   abbrev tree-at : ℕ → Tree V
   tree-at n = v (getD (last .taken) n (cell 0))
@@ -110,7 +117,10 @@ module _ {V : Type 0} (book : List (Entry V)) (v : Term → Tree V) (last : Repl
       MeetsAll v (made s e ++ (equal t (part s (e .head)) ∷ [])) → InstanceAt s e t
   instance-at s e t m =
       let parts : MeetsAll v (made s e) = meets-left v (made s e) (equal t (part s (e .head)) ∷ []) m in (
-        record { trees = λ j. sol .trees (part s j); meets = meets-unrenamed (part s) v (instance-of (e .parts) 0) parts },
+        record {
+          trees = λ j. sol .trees (part s j);
+          meets = meets-unrenamed (part s) v (instance-of (e .parts) 0) parts;
+        },
         meets-right v (made s e) (equal t (part s (e .head)) ∷ []) m .0,
       )
 
@@ -128,7 +138,8 @@ module _ {V : Type 0} (book : List (Entry V)) (v : Term → Tree V) (last : Repl
 
   -- where the tree of a step on the path stands among the ancestors
   abbrev OnPath : Replay V → ℕ → List ℕ → Tree V → Type 0
-  OnPath r n path t = (j : ℕ) × (j < length (above path)) × (getD (above path) j t ≡ tree-at n) × (n < length (r .taken))
+  OnPath r n path t = (j : ℕ) × (j < length (above path)) × (getD (above path) j t ≡ tree-at n) ×
+      (n < length (r .taken))
 
   on-path : (r : Replay V) (n : ℕ) (path : List ℕ) (t : Tree V) →
       All (λ k. k < length (r .taken)) path → member n path ≡ true → OnPath r n path t
@@ -164,9 +175,11 @@ module _ {V : Type 0} (book : List (Entry V)) (v : Term → Tree V) (last : Repl
       paths : (g : Goal) (rest : List Goal) → r .pending ≡ g ∷ rest → All (PathTaken r) (g ∷ rest)
       paths g rest p = subst (All (PathTaken r)) p o
 
-      by-entry : (g : Goal) (rest : List Goal) (n : ℕ) (e : Entry V) → r .pending ≡ g ∷ rest → nth book n ≡ Some e →
+      by-entry : (g : Goal) (rest : List Goal) (n : ℕ) (e : Entry V) → r .pending ≡ g ∷ rest →
+          nth book n ≡ Some e →
           (g .inner ≡ false → e .kind ≡ clause) → OnTheWay (expand r g rest e) → Grown (expand r g rest e) last →
-          (PathsTaken (expand r g rest e) → All GoalShown (expand r g rest e .pending)) → All GoalShown (r .pending)
+          (PathsTaken (expand r g rest e) → All GoalShown (expand r g rest e .pending)) →
+          All GoalShown (r .pending)
       by-entry g rest n e p f c (ts, q) w later =
           let s : ℕ = length (r .taken) in
           let body : List Goal = map (goal-below s g) (e .body) in
@@ -204,4 +217,5 @@ module _ {V : Type 0} (book : List (Entry V)) where
       all-map (PathTaken (start {V = V} goals)) goal-at goals (all-any (λ c. Unit {0}) (λ c. tt) goals) in
       let all : All (λ c. GoalShown book v last sol (goal-at c)) goals =
       all-unmap (GoalShown book v last sol) goal-at goals (shown book v last sol steps (start goals) l d fine) in
-      all-weaker (λ c. GoalShown book v last sol (goal-at c)) (λ g. Held book (v (cell g))) (λ g z. held book refl z) goals all
+      all-weaker (λ c. GoalShown book v last sol (goal-at c)) (λ g. Held book (v (cell g)))
+      (λ g z. held book refl z) goals all

@@ -67,7 +67,8 @@ module _ {V : Type 0} (book : List (Entry V)) where
       more-from (after book k (e .call) (e .answer)) h in
       (a .0 ++ b .0, b .1 ∙ (ap (λ z. z ++ b .0) (a .1) ∙ append-assoc (k .equations) (a .0) (b .0)))
 
-  known-split : (k : Known V) (a b : List (Event V)) → known-from book k (a ++ b) ≡ known-from book (known-from book k a) b
+  known-split : (k : Known V) (a b : List (Event V)) →
+      known-from book k (a ++ b) ≡ known-from book (known-from book k a) b
   known-split k [] b = refl
   known-split k (e ∷ a) b = known-split (after book k (e .call) (e .answer)) a b
 
@@ -83,17 +84,20 @@ module _ {V : Type 0} (book : List (Entry V)) where
     right-right k (e ∷ a) b r = right-right (after book k (e .call) (e .answer)) a b (r .1)
 
     -- a right sitting was right at every moment
-    pub right-before : (h now later : List (Event V)) → h ≡ now ++ later → Right book supplied h → Right book supplied now
+    pub right-before : (h now later : List (Event V)) → h ≡ now ++ later → Right book supplied h →
+        Right book supplied now
     right-before h now later e r = right-left nothing now later (subst (Right book supplied) e r)
 
     -- one more event keeps a sitting right when its answer is the defined one
     pub right-push : (k : Known V) (h : List (Event V)) (c : Call V) (a : Answer) → RightFrom book supplied k h →
-        Defined book supplied (known-from book k h) c a → RightFrom book supplied k (h ++ (record { call = c; answer = a } ∷ []))
+        Defined book supplied (known-from book k h) c a →
+        RightFrom book supplied k (h ++ (record { call = c; answer = a } ∷ []))
     right-push k [] c a r d = (d, tt)
     right-push k (e ∷ h) c a r d = (r .0, right-push (after book k (e .call) (e .answer)) h c a (r .1) d)
 
     -- the moment of a call
-    module _ (h : List (Event V)) (right : Right book supplied h) (before : List (Event V)) (c : Call V) (a : Answer)
+    module _ (h : List (Event V)) (right : Right book supplied h) (before : List (Event V)) (c : Call V)
+        (a : Answer)
         (at : At h before c a) where
       abbrev from-here : List (Event V)
       from-here = record { call = c; answer = a } ∷ at .0

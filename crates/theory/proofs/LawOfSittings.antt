@@ -88,11 +88,13 @@ module _ {V : Type 0} (book : List (Entry V)) (rules : BookRules book) (supplied
           (sound-right book rules supplied h right .solvable);
     }
 
-  hopeless : (before : List (Event V)) (goals : List ℕ) (b s w f n : ℕ) → At h before (solve goals b s w f) (fails n) →
+  hopeless : (before : List (Event V)) (goals : List ℕ) (b s w f n : ℕ) →
+      At h before (solve goals b s w f) (fails n) →
       (steps : List Step) → Lawful book (known book h .equations) goals steps → ⊥
   hopeless before goals b s w f n at steps l =
       let k : Known V = known book before in
-      let more : More k (known book h) = more-now book supplied h right before (solve goals b s w f) (fails n) at in
+      let more : More k (known book h) =
+      more-now book supplied h right before (solve goals b s w f) (fails n) at in
       failed-none book (k .equations) (more .0) (limits supplied k b s) goals n
       (of-failed book supplied k goals b s w f n
       (defined-then book supplied h right before (solve goals b s w f) (fails n) at))
@@ -150,7 +152,8 @@ module _ {V : Type 0} (book : List (Entry V)) (rules : BookRules book) (supplied
   stands : Stands book supplied h
   stands = record {
     compared = λ before x y w a at.
-        of-compare book supplied (known book before) x y w a (defined-then book supplied h right before (compare x y w) a at);
+        of-compare book supplied (known book before) x y w a
+        (defined-then book supplied h right before (compare x y w) a at);
     granted = granted;
     checked = checked;
     passed = passed-is;

@@ -188,7 +188,8 @@ module _ {V : Type 0} (used : ℕ) (es : List (Equation V ℕ)) (low : All (Name
                     (
                       extended-here used τ ρ [] ∙ ap (λ n. Some (Label.node f n)) (length-map args ρ),
                       children τ (σ used) ρ 0 args a
-                          (λ j p. extended-here used τ ρ ((0 + j) ∷ p) ∙ ap (λ k. pick (map ρ args) k p) (zero-add j)),
+                          (λ j p. extended-here used τ ρ ((0 + j) ∷ p)
+                          ∙ ap (λ k. pick (map ρ args) k p) (zero-add j)),
                     ),
                     tt,
                   );

@@ -13,7 +13,8 @@ use Rattle.theory.proofs.Elements.{all-nth}
 module _ {V : Type 0} (book : List (Entry V)) (bodies : All (λ e. 0 < length (e .body)) book) where
   -- a proof would need one of a body tree, and that another
   no-proof : {t : Tree V} → FiniteProof book t → ⊥
-  no-proof (by-entry k e f ι inst same kids) = no-proof (kids 0 (all-nth (λ e. 0 < length (e .body)) book k e bodies f))
+  no-proof (by-entry k e f ι inst same kids) =
+      no-proof (kids 0 (all-nth (λ e. 0 < length (e .body)) book k e bodies f))
 
   -- the tree that is held would have one
   pub not-held : (t : Tree V) → Held book t → ⊥

@@ -12,7 +12,8 @@ use Rattle.theory.specs.Check.{If, Verdict, unlawful, no-cells, CheckFrom, AtE
 use Rattle.theory.specs.Calls.{Call, write-open, write-leaf, write-node, equate, compare, solve, check}
 use Rattle.theory.specs.Calls.{Answer, refused, not-in-use, not-an-atom}
 use Rattle.theory.specs.Known.{Known}
-use Rattle.theory.specs.Answers.{first-unused, FirstNonAtom, answer-of, answer-to, UsedOr, AtomsOr, NextCell, Defined}
+use Rattle.theory.specs.Answers.{first-unused, FirstNonAtom, answer-of, answer-to, UsedOr, AtomsOr, NextCell}
+use Rattle.theory.specs.Answers.{Defined}
 use Rattle.theory.proofs.OneOutcome.{one-outcome}
 
 -- both sides take the same way, and each way has one answer
@@ -54,13 +55,15 @@ module _ {V : Type 0} (book : List (Entry V)) (known : List (Equation V ℕ)) (f
       ]
 
       go : (o : Replayed V) → At v o → At w o →
-          ((m : Replay V) → CheckFrom book known free m (suc i) xs v → CheckFrom book known free m (suc i) xs w → v ≡ w) →
+          ((m : Replay V) → CheckFrom book known free m (suc i) xs v →
+          CheckFrom book known free m (suc i) xs w → v ≡ w) →
           v ≡ w
       go (broken rule) e f rec = e ∙ sym f
       go (went m) e f rec = one-first e f (λ p q. one-second p q (rec m))
 
 module _ {V : Type 0} (k : Known V) where
-  one-used : (cs : List ℕ) (a b : Answer) (A B : Type 0) → UsedOr k cs a A → UsedOr k cs b B → (A → B → a ≡ b) → a ≡ b
+  one-used : (cs : List ℕ) (a b : Answer) (A B : Type 0) → UsedOr k cs a A → UsedOr k cs b B →
+      (A → B → a ≡ b) → a ≡ b
   one-used cs a b A B p q r = go (first-unused (k .used) cs) p q
     where
       At : Answer → Type 0 → Option ℕ → Type 0
@@ -97,11 +100,13 @@ module _ {V : Type 0} (k : Known V) where
   one-answer book n (compare x y w) a b p q =
       one-used (x ∷ y ∷ []) a b _ _ p q (λ p q. one-first p q (λ p q. one-first p q (λ e f. e ∙ sym f)))
   one-answer book n (solve goals m s w f) a b p q =
-      one-first p q (λ p q. one-used goals a b _ _ p q (λ p q. one-atoms goals a b _ _ p q (λ p q. one-first p q (λ p q.
+      one-first p q (λ p q. one-used goals a b _ _ p q (λ p q. one-atoms goals a b _ _ p q (λ p q.
+      one-first p q (λ p q.
       p .2
       ∙ (ap answer-of (one-outcome book (k .equations) _ goals (p .0) (q .0) (p .1) (q .1)) ∙ sym (q .2))))))
   one-answer book n (check goals steps w f) a b p q =
-      one-first p q (λ p q. one-used goals a b _ _ p q (λ p q. one-atoms goals a b _ _ p q (λ p q. one-first p q (λ p q.
+      one-first p q (λ p q. one-used goals a b _ _ p q (λ p q. one-atoms goals a b _ _ p q (λ p q.
+      one-first p q (λ p q.
       p .2
       ∙ (ap answer-to (one-verdict book (k .equations) _ steps (start goals) 0 (p .0) (q .0) (p .1) (q .1))
       ∙ sym (q .2))))))

@@ -39,7 +39,8 @@ module _ {V : Type 0} (book : List (Entry V)) (known : List (Equation V ℕ)) (l
   ok-new : (r : Replay V) (s : List Step) → Ok (record { at = r; steps = s; left = tries book (r .pending) })
   ok-new r s e = ap (tries book) e
 
-  same-r : (r : Replay V) {x y : Step} {a b : Replay V} → x ≡ y → step book r x ≡ went a → step book r y ≡ went b → a ≡ b
+  same-r : (r : Replay V) {x y : Step} {a b : Replay V} → x ≡ y → step book r x ≡ went a →
+      step book r y ≡ went b → a ≡ b
   same-r r e f g = went-inj (sym f ∙ (ap (step book r) e ∙ g))
 
   -- two tries that are next at a point are the same, and lead to the same replay
@@ -47,19 +48,23 @@ module _ {V : Type 0} (book : List (Entry V)) (known : List (Equation V ℕ)) (l
     same-may : May book known lim p n x xs a → May book known lim p n y ys b → a ≡ b
     same-may f g = same-r (p .at) (same-x (f .next) (g .next)) (f .after) (g .after)
 
-    fit : p .left ≡ x ∷ xs → step book (p .at) x ≡ went a → lim .free < a .cells → May book known lim p n y ys b → ⊥
+    fit : p .left ≡ x ∷ xs → step book (p .at) x ≡ went a → lim .free < a .cells →
+        May book known lim p n y ys b → ⊥
     fit l s c m =
         over (m .cells) (subst (λ q. lim .free < q .cells) (same-r (p .at) (same-x l (m .next)) s (m .after)) c)
 
-    same-stand : (below : List (Point V)) {o : Outcome} → May book known lim p n x xs a → May book known lim p n y ys b →
+    same-stand : (below : List (Point V)) {o : Outcome} → May book known lim p n x xs a →
+        May book known lim p n y ys b →
         Searches book known lim (onward book p x a) (without p xs ∷ below) (suc n) o →
         Searches book known lim (onward book p y b) (without p ys ∷ below) (suc n) o
     same-stand below {o = o} f g t =
         subst₃ (λ x xs a. Searches book known lim (onward book p x a) (without p xs ∷ below) (suc n) o)
         (same-x (f .next) (g .next)) (same-xs (f .next) (g .next)) (same-may f g) t
 
-    same-fall : (below : List (Point V)) {o : Outcome} → May book known lim p n x xs a → May book known lim p n y ys b →
-        Searches book known lim (without p xs) below (suc n) o → Searches book known lim (without p ys) below (suc n) o
+    same-fall : (below : List (Point V)) {o : Outcome} → May book known lim p n x xs a →
+        May book known lim p n y ys b →
+        Searches book known lim (without p xs) below (suc n) o →
+        Searches book known lim (without p ys) below (suc n) o
     same-fall below {o = o} f g t =
         subst (λ q. Searches book known lim (without p q) below (suc n) o) (same-xs (f .next) (g .next)) t
 
@@ -120,16 +125,19 @@ module _ {V : Type 0} (book : List (Entry V)) (known : List (Equation V ℕ)) (l
   one (falls x1 xs1 r1 m1 u1 t1) (out-of-cells x2 xs2 r2 l2 e2 f2 g2 c2) ok all = absurd (fit l2 g2 c2 m1)
   one (falls {p = p} {below = below} x1 xs1 r1 m1 u1 t1) (falls x2 xs2 r2 m2 u2 t2) ok all =
       one t1 (same-fall below m2 m1 t2) (ok-without p x1 xs1 (m1 .next) ok) all
-  one (falls x1 xs1 r1 m1 u1 t1) (stands x2 xs2 r2 m2 u2 t2) ok all = absurd (u1 (subst (λ q. Solvable (together known q)) (same-may m2 m1) u2))
+  one (falls x1 xs1 r1 m1 u1 t1) (stands x2 xs2 r2 m2 u2 t2) ok all =
+      absurd (u1 (subst (λ q. Solvable (together known q)) (same-may m2 m1) u2))
   one (stands x1 xs1 r1 m1 u1 t1) (done e2) ok all = two (ok e2) (m1 .next)
   one (stands x1 xs1 r1 m1 u1 t1) (exhausted s2) ok all = two (s2 .none) (m1 .next)
   one (stands x1 xs1 r1 m1 u1 t1) (back s2 t2) ok all = two (s2 .none) (m1 .next)
   one (stands x1 xs1 r1 m1 u1 t1) (out-of-tries x2 xs2 l2 e2) ok all = absurd (m1 .budget e2)
   one (stands x1 xs1 r1 m1 u1 t1) (out-of-steps x2 xs2 l2 e2 f2) ok all = over f2 (m1 .room)
   one (stands x1 xs1 r1 m1 u1 t1) (out-of-cells x2 xs2 r2 l2 e2 f2 g2 c2) ok all = absurd (fit l2 g2 c2 m1)
-  one (stands x1 xs1 r1 m1 u1 t1) (falls x2 xs2 r2 m2 u2 t2) ok all = absurd (u2 (subst (λ q. Solvable (together known q)) (same-may m1 m2) u1))
+  one (stands x1 xs1 r1 m1 u1 t1) (falls x2 xs2 r2 m2 u2 t2) ok all =
+      absurd (u2 (subst (λ q. Solvable (together known q)) (same-may m1 m2) u1))
   one (stands {p = p} {below = below} x1 xs1 r1 m1 u1 t1) (stands x2 xs2 r2 m2 u2 t2) ok all =
-      one t1 (same-stand below m2 m1 t2) (ok-new r1 (p .steps ++ (x1 ∷ []))) (ok-without p x1 xs1 (m1 .next) ok, all)
+      one t1 (same-stand below m2 m1 t2) (ok-new r1 (p .steps ++ (x1 ∷ [])))
+      (ok-without p x1 xs1 (m1 .next) ok, all)
 
   -- the search for a record of the goals comes to at most one outcome
   pub one-outcome : (goals : List ℕ) (o o′ : Outcome) →

@@ -1,5 +1,5 @@
--- The instances of a record, laid into the next cells of the slate: what is known after a grant has a reading, and names
--- only cells in use.
+-- The instances of a record, laid into the next cells of the slate: what is known after a grant has a
+-- reading, and names only cells in use.
 use mathlib.Core.Path.{_≡_, refl, sym, _∙_, ap, subst}
 use mathlib.Core.List.{List, [], _∷_, _++_, map}
 use mathlib.Core.Logic.{_⊎_, inl, inr}
@@ -13,8 +13,10 @@ use Rattle.std.proofs.shelf.Lists.{getD-append-left, getD-push, length-push}
 use Rattle.std.proofs.shelf.Tests.{cases-lt}
 use Rattle.theory.specs.Trees.{Tree, Same, IsTree}
 use Rattle.theory.specs.Equations.{Equation, equal, rename, Solves, MeetsAll}
-use Rattle.theory.specs.Entries.{Entry, Part, variable, leaf, node, PartsRules, IsNode, EntryRules, BookRules, instance-of}
-use Rattle.theory.specs.Records.{Step, Term, cell, part, Goal, goal-at, goal-below, Replay, start, made, expand, close}
+use Rattle.theory.specs.Entries.{Entry, Part, variable, leaf, node, PartsRules, IsNode, EntryRules, BookRules}
+use Rattle.theory.specs.Entries.{instance-of}
+use Rattle.theory.specs.Records.{Step, Term, cell, part, Goal, goal-at, goal-below, Replay, start, made}
+use Rattle.theory.specs.Records.{expand, close}
 use Rattle.theory.specs.Records.{Leads, together}
 use Rattle.theory.specs.Known.{Names, placed}
 use Rattle.theory.proofs.Elements.{all-or, all-nth}
@@ -91,7 +93,8 @@ module _ {V : Type 0} (used : ℕ) (v : Term → Tree V) (trees : (t : Term) →
       bad q = omega arith
 
       go : (b : (used + (r .cells + j) < used + r .cells) ⊎ (used + r .cells ≤ used + (r .cells + j))) →
-          choose b (ρ (used + (r .cells + j))) (v (part (length (r .taken)) ((used + (r .cells + j)) - (used + r .cells))))
+          choose b (ρ (used + (r .cells + j)))
+          (v (part (length (r .taken)) ((used + (r .cells + j)) - (used + r .cells))))
           ≡ v (part (length (r .taken)) j)
       go (inl p) = absurd (bad p)
       go (inr q) = ap (λ k. v (part (length (r .taken)) k)) minus
@@ -113,12 +116,14 @@ module _ {V : Type 0} (used : ℕ) (v : Term → Tree V) (trees : (t : Term) →
   still-taken : (r m : Replay V) → m .offsets ≡ r .offsets ++ (r .cells ∷ []) → (t : Term) → Taken r t → Taken m t
   still-taken r m o (cell c) h = tt
   still-taken r m o (part s j) h =
-      subst (λ l. s < length l) (sym o) (subst (λ k. s < k) (sym (length-push (r .offsets) (r .cells))) (omega arith))
+      subst (λ l. s < length l) (sym o) (subst (λ k. s < k) (sym (length-push (r .offsets) (r .cells)))
+      (omega arith))
 
   keeps : (r m : Replay V) (ρ : ℕ → Tree V) → m .offsets ≡ r .offsets ++ (r .cells ∷ []) → r .cells ≤ m .cells →
       (t : Term) → Lies r ρ t → Lies m (next r ρ) t
   keeps r m ρ o c t (ok, low, same) =
-      let e : placed used (m .offsets) t ≡ placed used (r .offsets) t = ap (λ l. placed used l t) o ∙ stays r t ok in (
+      let e : placed used (m .offsets) t ≡ placed used (r .offsets) t =
+      ap (λ l. placed used l t) o ∙ stays r t ok in (
         still-taken r m o t ok,
         subst (λ k. k < used + m .cells) (sym e) (omega arith),
         λ p. ap (λ k. next r ρ k p) e ∙ (ap (λ z. z p) (next-low r ρ (placed used (r .offsets) t) low) ∙ same p),
@@ -139,7 +144,8 @@ module _ {V : Type 0} (used : ℕ) (v : Term → Tree V) (trees : (t : Term) →
       )
 
   -- what a step keeps, whatever its mode
-  module _ (r m : Replay V) (ρ : ℕ → Tree V) (g : Goal) (rest : List Goal) (p : r .pending ≡ g ∷ rest) (l : Laid r ρ)
+  module _ (r m : Replay V) (ρ : ℕ → Tree V) (g : Goal) (rest : List Goal) (p : r .pending ≡ g ∷ rest)
+      (l : Laid r ρ)
       (offsets : m .offsets ≡ r .offsets ++ (r .cells ∷ [])) (taken : m .taken ≡ r .taken ++ (g .term ∷ []))
       (more : r .cells ≤ m .cells) where
     keep : (t : Term) → Lies r ρ t → Lies m (next r ρ) t
@@ -210,7 +216,8 @@ module _ {V : Type 0} (used : ℕ) (v : Term → Tree V) (trees : (t : Term) →
       (equal (g .term) (getD (r .taken) n (g .term)) ∷ []) refl ((goal, other), tt)
 
   module _ (book : List (Entry V)) (rules : BookRules book) where
-    laid-step : (r : Replay V) (ρ : ℕ → Tree V) (x : Step) (m : Replay V) → Took book r x m → Laid r ρ → Laid m (next r ρ)
+    laid-step : (r : Replay V) (ρ : ℕ → Tree V) (x : Step) (m : Replay V) → Took book r x m → Laid r ρ →
+        Laid m (next r ρ)
     laid-step r ρ x m (clause-step g rest n e p i f c) l =
         laid-expand r ρ g rest e p (all-nth EntryRules book n e (rules .entries) f) l
     laid-step r ρ x m (loop-step g rest n p i f) l = laid-close r ρ g rest n p l
@@ -260,7 +267,8 @@ module _ {V : Type 0} (used : ℕ) (v : Term → Tree V) (trees : (t : Term) →
           meets-known : MeetsAll σ known
           meets-known =
               back-all cell v σ known
-              (all-names-weaker (λ c. c < used) (Agrees cell v σ) (λ c h p. sym (at-last .1 .cells c h p)) known low)
+              (all-names-weaker (λ c. c < used) (Agrees cell v σ)
+              (λ c h p. sym (at-last .1 .cells c h p)) known low)
               (meets-left v (map (rename cell) known) (t .equations) m)
 
           meets-record : MeetsAll σ (map (rename (placed used (t .offsets))) (t .equations))

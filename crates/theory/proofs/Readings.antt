@@ -51,7 +51,8 @@ pub all-names-renamed :
     All (Names (λ x. P (g x))) es → All (Names P) (map (rename g) es)
 all-names-renamed g P [] a = tt
 all-names-renamed g P (is-leaf x v ∷ es) a = (a .0, all-names-renamed g P es (a .1))
-all-names-renamed g P (is-node x f xs ∷ es) a = ((a .0 .0, all-map P g xs (a .0 .1)), all-names-renamed g P es (a .1))
+all-names-renamed g P (is-node x f xs ∷ es) a =
+    ((a .0 .0, all-map P g xs (a .0 .1)), all-names-renamed g P es (a .1))
 all-names-renamed g P (equal x y ∷ es) a = (a .0, all-names-renamed g P es (a .1))
 
 -- a reading ρ of the new terms and one τ of the old
@@ -76,7 +77,8 @@ module _ {V X Y : Type 0} (f : X → Y) (ρ : Y → Tree V) (τ : X → Tree V) 
   there (equal x y) a m = λ p. a .0 p ∙ (m p ∙ sym (a .1 p))
 
   -- where they agree on what the equations name, one meets the renamed equations if the other meets the equations
-  pub there-all : (es : List (Equation V X)) → All (Names Agrees) es → MeetsAll τ es → MeetsAll ρ (map (rename f) es)
+  pub there-all : (es : List (Equation V X)) → All (Names Agrees) es → MeetsAll τ es →
+      MeetsAll ρ (map (rename f) es)
   there-all [] a m = tt
   there-all (e ∷ es) a m = (there e (a .0) (m .0), there-all es (a .1) (m .1))
 
@@ -96,7 +98,8 @@ module _ {V X Y : Type 0} (f : X → Y) (ρ : Y → Tree V) (τ : X → Tree V) 
   back (equal x y) a m = λ p. sym (a .0 p) ∙ (m p ∙ a .1 p)
 
   -- and the other way round
-  pub back-all : (es : List (Equation V X)) → All (Names Agrees) es → MeetsAll ρ (map (rename f) es) → MeetsAll τ es
+  pub back-all : (es : List (Equation V X)) → All (Names Agrees) es → MeetsAll ρ (map (rename f) es) →
+      MeetsAll τ es
   back-all [] a m = tt
   back-all (e ∷ es) a m = (back e (a .0) (m .0), back-all es (a .1) (m .1))
 

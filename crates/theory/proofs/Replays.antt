@@ -70,7 +70,8 @@ module _ {V : Type 0} where
       both ρ m =
           let these : MeetsAll ρ (map (rename cell) (known ++ more)) =
           meets-left ρ (map (rename cell) (known ++ more)) (t .equations) m in
-          let those : MeetsAll ρ (t .equations) = meets-right ρ (map (rename cell) (known ++ more)) (t .equations) m in
+          let those : MeetsAll ρ (t .equations) =
+          meets-right ρ (map (rename cell) (known ++ more)) (t .equations) m in
           meets-both ρ (map (rename cell) known) (r .equations)
           (meets-left ρ (map (rename cell) known) (map (rename cell) more)
           (subst (MeetsAll ρ) (map-append (rename cell) known more) these))
@@ -86,7 +87,13 @@ module _ {V : Type 0} where
   pub started : (known : List (Equation V ℕ)) (goals : List ℕ) →
       Solvable known → Solvable (together known (start {V = V} goals))
   started known goals s =
-      ∥∥₁-rec squash₁ (λ z. ∣ (over (z .0), record { trees = is-tree (z .0) (z .1 .trees); meets = meets (z .0) (z .1 .meets) }) ∣₁) s
+      ∥∥₁-rec squash₁ (λ z. ∣ (
+        over (z .0),
+        record {
+          trees = is-tree (z .0) (z .1 .trees);
+          meets = meets (z .0) (z .1 .meets);
+        },
+      ) ∣₁) s
     where
       over : (ℕ → Tree V) → Term → Tree V
       over ρ (cell c) = ρ c

@@ -34,7 +34,8 @@ module _ (V : Type 0) where
   some-tree-is = node-is 0 [] (lit< tt) tt
 
 module _ {V : Type 0} where
-  wider : (n m : ℕ) → n ≤ m → (es : List (Equation V ℕ)) → All (Names (λ c. c < n)) es → All (Names (λ c. c < m)) es
+  wider : (n m : ℕ) → n ≤ m → (es : List (Equation V ℕ)) → All (Names (λ c. c < n)) es →
+      All (Names (λ c. c < m)) es
   wider n m h es a = all-names-weaker (λ c. c < n) (λ c. c < m) (λ c l. omega arith) es a
 
   one-more : (k : Known V) → Sound k → All (Names (λ c. c < suc (k .used))) (k .equations)
@@ -57,7 +58,8 @@ module _ {V : Type 0} where
       Sound (record { used = suc (k .used); equations = k .equations ++ (is-leaf (k .used) v ∷ []) })
   sound-leaf k v g = record {
     in-use =
-        all-push (Names (λ c. c < suc (k .used))) (k .equations) (is-leaf (k .used) v) (one-more k g) (omega arith);
+        all-push (Names (λ c. c < suc (k .used))) (k .equations) (is-leaf (k .used) v) (one-more k g)
+        (omega arith);
     solvable = with-leaf (k .used) (k .equations) (g .in-use) v (g .solvable);
   }
 
@@ -87,12 +89,14 @@ module _ {V : Type 0} (book : List (Entry V)) (rules : BookRules book) where
   sound-recorded : (k : Known V) (goals : List ℕ) (steps : List Step) → All (λ c. c < k .used) goals →
       Lawful book (k .equations) goals steps → Sound k → Sound (recorded k (replay book goals steps))
   sound-recorded k goals steps u l g =
-      subst (λ r. Sound (recorded k r)) (sym (leads-replay book (start goals) steps (l .last) (l .leads))) (record {
+      subst (λ r. Sound (recorded k r)) (sym (leads-replay book (start goals) steps (l .last) (l .leads)))
+      (record {
         in-use =
             all-append (Names low) (k .equations) (map (rename put) (l .last .equations))
             (wider (k .used) (k .used + l .last .cells) (omega arith) (k .equations) (g .in-use))
             (all-names-renamed put low (l .last .equations)
-            (placed-low (k .used) (λ _. some-tree V) (λ _. some-tree-is V) book rules goals u steps (l .last) (l .leads)));
+            (placed-low (k .used) (λ _. some-tree V) (λ _. some-tree-is V) book rules goals u steps (l .last)
+            (l .leads)));
         solvable =
             ∥∥₁-rec squash₁
             (λ z. ∣ placed-solves (k .used) (z .0) (z .1 .trees) book rules goals u steps (l .last) (l .leads)
@@ -167,7 +171,8 @@ module _ {V : Type 0} (book : List (Entry V)) (rules : BookRules book) where
     sound-after k (solve goals b s w f) a g d = sound-solved k goals b s w f a g d
     sound-after k (check goals steps w f) a g d = g
 
-    sound-from : (k : Known V) (h : List (Event V)) → RightFrom book supplied k h → Sound k → Sound (known-from book k h)
+    sound-from : (k : Known V) (h : List (Event V)) → RightFrom book supplied k h → Sound k →
+        Sound (known-from book k h)
     sound-from k [] r g = g
     sound-from k (e ∷ h) r g =
         sound-from (after book k (e .call) (e .answer)) h (r .1) (sound-after k (e .call) (e .answer) g (r .0))

@@ -54,7 +54,8 @@ module _ {V : Type 0} (book : List (Entry V)) where
 
     clause-case : (n : ℕ) (e : Entry V) (k : Kind) → nth book n ≡ Some e → e .kind ≡ k → g .inner ≡ false →
         (m : Replay V) → by-kind e k ≡ went m → Took book r (step-of 1 n) m
-    clause-case n e clause f c i m q = subst (Took book r (step-of 1 n)) (went-inj q) (clause-step g rest n e p i f c)
+    clause-case n e clause f c i m q =
+        subst (Took book r (step-of 1 n)) (went-inj q) (clause-step g rest n e p i f c)
     clause-case n e cofact f c i m q = absurd (not-broken q)
 
     mode-1 : (n : ℕ) (b : Bool) (o : Option (Entry V)) → g .inner ≡ b → nth book n ≡ o →

@@ -68,7 +68,8 @@ path-in : (x : Step) (path : List ℕ) → In x (map (step-of 2) path) → OnPat
 path-in x [] i = absurd i
 path-in x (y ∷ ys) (inl e) =
     (y, e, ap (λ b. elim b as (λ _. Bool) [ true ↦ true | false ↦ member y ys ]) (eq-eqb y y refl))
-path-in x (y ∷ ys) (inr i) = let w : OnPath x ys = path-in x ys i in (w .0, w .1, later (w .0) (eqb (w .0) y) (w .2))
+path-in x (y ∷ ys) (inr i) =
+    let w : OnPath x ys = path-in x ys i in (w .0, w .1, later (w .0) (eqb (w .0) y) (w .2))
   where
     later : (n : ℕ) (b : Bool) → member n ys ≡ true → Path Bool (elim b [ true ↦ true | false ↦ member n ys ]) true
     later n true h = refl
@@ -80,7 +81,8 @@ IsClause cofact = ⊥
 
 module _ {V : Type 0} where
   -- all entries, numbered from j on
-  in-entries : (j n : ℕ) (l : List (Entry V)) (e : Entry V) → nth l n ≡ Some e → In (step-of 3 (j + n)) (entries-from j l)
+  in-entries : (j n : ℕ) (l : List (Entry V)) (e : Entry V) → nth l n ≡ Some e →
+      In (step-of 3 (j + n)) (entries-from j l)
   in-entries j n [] e f = absurd (none-some f)
   in-entries j zero (x ∷ l) e f = inl (ap (step-of 3) (add-zero j))
   in-entries j (suc n) (x ∷ l) e f =
@@ -106,7 +108,8 @@ module _ {V : Type 0} where
   this-clause j clause l c = inl refl
   this-clause j cofact l c = absurd (subst IsClause (sym c) tt)
 
-  later-clause : (y : Step) (j : ℕ) (k : Kind) (l : List (Entry V)) → In y (clauses-from (suc j) l) → In y (from j k l)
+  later-clause : (y : Step) (j : ℕ) (k : Kind) (l : List (Entry V)) → In y (clauses-from (suc j) l) →
+      In y (from j k l)
   later-clause y j clause l i = inr i
   later-clause y j cofact l i = i
 
@@ -130,9 +133,17 @@ module _ {V : Type 0} where
   clauses-in x j (y ∷ l) i = go (y .kind) refl i (clauses-in x (suc j) l)
     where
       one-more : NamesClause x (suc j) l → NamesClause x j (y ∷ l)
-      one-more w = (suc (w .0), w .1, w .2 ∙ ap (step-of 1) (suc-add j (w .0) ∙ sym (add-suc j (w .0))), w .3, w .4)
+      one-more w = (
+        suc (w .0),
+        w .1,
+        w .2 ∙ ap (step-of 1)
+            (suc-add j (w .0) ∙ sym (add-suc j (w .0))),
+        w .3,
+        w .4,
+      )
 
-      go : (k : Kind) → y .kind ≡ k → In x (from j k l) → (In x (clauses-from (suc j) l) → NamesClause x (suc j) l) →
+      go : (k : Kind) → y .kind ≡ k → In x (from j k l) →
+          (In x (clauses-from (suc j) l) → NamesClause x (suc j) l) →
           NamesClause x j (y ∷ l)
       go clause c (inl e) rest = (0, y, e ∙ ap (step-of 1) (sym (add-zero j)), refl, c)
       go clause c (inr i) rest = one-more (rest i)

@@ -1,22 +1,28 @@
 -- The worked sitting over book A, answer by answer.
 use mathlib.Core.Path.{_≡_, refl, sym, _∙_}
-use mathlib.Core.List.{List, [], _∷_}
+use mathlib.Core.List.{List, [], _∷_, _++_, map}
 use mathlib.Core.Logic.{_⊎_, inl, inr, _≢_}
 use mathlib.Core.HLevel.{⊥-prop}
 use Prim.Native.Nat.{ℕ, zero, suc, _<_, _≤_}
 use native.Mathlib.Omega.{arith}
 use lib.Dec.{lit<, lit≤}
+use lib.ListN.{length}
 use Rattle.std.specs.declared.option.Option.the-variants.{None}
 use Rattle.theory.specs.Trees.{Tree, IsTree}
-use Rattle.theory.specs.Equations.{Equation, is-node, Solvable, MeetsAll, IsAtom}
+use Rattle.theory.specs.Equations.{Equation, is-node, equal, rename, Solvable, MeetsAll, IsAtom}
 use Rattle.theory.specs.Entries.{BookRules, EntryRules}
-use Rattle.theory.specs.Records.{Step, step-of, Term, cell, part, Replay, start, replay, Leads, together}
+use Rattle.theory.specs.Records.{Step, step-of, Term, cell, part, Replay, start, made, replay, Leads, together}
 use Rattle.theory.specs.Search.{Limits, Outcome, granted, spent, full, Searches, Solve, Point}
 use Rattle.theory.specs.Search.{done, out-of-tries, out-of-steps, falls, stands}
-use Rattle.theory.specs.Check.{passed, unlawful}
-use Rattle.theory.specs.Sittings.{Right}
-use Rattle.theory.specs.Worked.{NoLeaf, q-fact, p-clause, q-clause, book-a, record-a, sitting-a}
+use Rattle.theory.specs.Check.{Verdict, passed, unlawful, CheckFrom, Check}
+use Rattle.theory.specs.Calls.{solve, check}
+use Rattle.theory.specs.Known.{Known}
+use Rattle.theory.specs.Answers.{served, answer-of, answer-to, Defined}
+use Rattle.theory.specs.Sittings.{RightFrom, Right}
+use Rattle.theory.specs.Worked.{NoLeaf, q-fact, p-clause, q-clause, book-a, record-a}
+use Rattle.theory.specs.Worked.{checks-a, searches-a, sitting-a}
 use Rattle.theory.proofs.Elements.{never}
+use Rattle.theory.proofs.Readings.{meets-both}
 use Rattle.theory.proofs.Replays.{grows, earlier-same}
 use Rattle.theory.proofs.NewCells.{node-tree, node-is}
 use Rattle.theory.proofs.EndlessTrees.{endless, endless-is}
@@ -40,8 +46,13 @@ book-a-rules = record { few = lit≤ tt; entries = (fact, (first, (second, tt)))
     first = record {
       some-part = lit≤ tt;
       few-parts = lit≤ tt;
-      parts =
-          ((lit< tt, lit≤ tt, tt), ((lit< tt, lit≤ tt, (lit< tt, tt)), (tt, ((lit< tt, lit≤ tt, (lit< tt, tt)), tt))));
+      parts = (
+        (lit< tt, lit≤ tt, tt),
+        (
+          (lit< tt, lit≤ tt, (lit< tt, tt)),
+          (tt, ((lit< tt, lit≤ tt, (lit< tt, tt)), tt)),
+        ),
+      );
       head = tt;
       few-goals = lit≤ tt;
       goals = (tt, tt);
@@ -142,48 +153,48 @@ reading-is (cell zero) = Z-is
 reading-is (cell (suc c)) = P-is
 reading-is (part s j) = part-is s j
 
+-- what the slate says and what each step adds
+abbrev slate-says : List (Equation NoLeaf Term)
+slate-says = map (rename cell) eqs
+
+abbrev first-adds : List (Equation NoLeaf Term)
+first-adds = made 0 p-clause ++ (equal (cell 1) (part 0 1) ∷ [])
+
+abbrev second-adds : List (Equation NoLeaf Term)
+second-adds = made 1 q-clause ++ (equal (part 0 3) (part 1 2) ∷ [])
+
+abbrev third-adds : List (Equation NoLeaf Term)
+third-adds = equal (part 1 3) (part 0 3) ∷ []
+
+abbrev fourth-adds : List (Equation NoLeaf Term)
+fourth-adds = made 3 q-fact ++ (equal (part 1 3) (part 3 1) ∷ [])
+
+-- the reading meets all of it
+known-met : MeetsAll reading slate-says
+known-met = ((refl, tt), ((refl, ((λ p. refl), tt)), tt))
+
+first-met : MeetsAll reading first-adds
+first-met = ((refl, tt), ((refl, ((λ p. refl), tt)), ((refl, ((λ p. refl), tt)), ((λ p. refl), tt))))
+
+second-met : MeetsAll reading second-adds
+second-met =
+    ((refl, ((λ p. refl), tt)), ((refl, ((λ p. refl), tt)), ((refl, ((λ p. refl), tt)), ((λ p. refl), tt))))
+
+third-met : MeetsAll reading third-adds
+third-met = ((λ p. refl), tt)
+
+fourth-met : MeetsAll reading fourth-adds
+fourth-met = ((refl, ((λ p. refl), tt)), ((λ p. refl), tt))
+
+all-met : MeetsAll reading (together eqs r4)
+all-met =
+    meets-both reading slate-says (r4 .equations) known-met
+    (meets-both reading first-adds (second-adds ++ (third-adds ++ fourth-adds)) first-met
+    (meets-both reading second-adds (third-adds ++ fourth-adds) second-met
+    (meets-both reading third-adds fourth-adds third-met fourth-met)))
+
 solved-4 : Solvable (together eqs r4)
-solved-4 =
-    ∣ (
-      reading,
-      record {
-        trees = reading-is;
-        meets = (
-          (refl, tt),
-          (
-            (refl, ((λ p. refl), tt)),
-            (
-              (refl, tt),
-              (
-                (refl, ((λ p. refl), tt)),
-                (
-                  (refl, ((λ p. refl), tt)),
-                  (
-                    (λ p. refl),
-                    (
-                      (refl, ((λ p. refl), tt)),
-                      (
-                        (refl, ((λ p. refl), tt)),
-                        (
-                          (refl, ((λ p. refl), tt)),
-                          (
-                            (λ p. refl),
-                            (
-                              (λ p. refl),
-                              ((refl, ((λ p. refl), tt)), ((λ p. refl), tt)),
-                            ),
-                          ),
-                        ),
-                      ),
-                    ),
-                  ),
-                ),
-              ),
-            ),
-          ),
-        );
-      },
-    ) ∣₁
+solved-4 = ∣ (reading, record { trees = reading-is; meets = all-met }) ∣₁
 
 -- it is one of each replay on the way
 from-3 : Leads book-a r3 (step-of 3 0 ∷ []) r4
@@ -202,7 +213,8 @@ solved-2 : Solvable (together eqs r2)
 solved-2 = earlier-same eqs r2 r4 (grows book-a r2 (step-of 2 1 ∷ step-of 3 0 ∷ []) r4 from-2) solved-4
 
 solved-1 : Solvable (together eqs r1)
-solved-1 = earlier-same eqs r1 r4 (grows book-a r1 (step-of 1 2 ∷ step-of 2 1 ∷ step-of 3 0 ∷ []) r4 from-1) solved-4
+solved-1 = earlier-same eqs r1 r4 (grows book-a r1 (step-of 1 2 ∷ step-of 2 1 ∷ step-of 3 0 ∷ []) r4 from-1)
+    solved-4
 
 -- two tries that fall: q(X) is not p(z), nor the head of the clause for p
 abbrev with-ancestor : Replay NoLeaf
@@ -294,86 +306,55 @@ pub neither : {m n k l : ℕ} → n ≤ m → l ≤ k → (m < n) ⊎ (k < l) �
 neither a b (inl q) = no a q
 neither a b (inr q) = no b q
 
--- each answer by its tests, in their order
+-- a check and a solve get past their tests
+abbrev slate : Known NoLeaf
+slate = record { used = 2; equations = eqs }
+
+check-says : (steps : List Step) (frames : ℕ) (v : Verdict) → length steps ≤ 4096 → length steps ≤ frames →
+    Check book-a eqs 98 (1 ∷ []) steps v →
+    Defined book-a 100 slate (check (1 ∷ []) steps 900 frames) (answer-to v)
+check-says steps frames v h f c =
+    inr (neither (lit≤ tt) h, (None, inl (atom, refl), inr (neither (lit≤ tt) f, (v, c, refl))))
+
+solve-says : (budget steps frames : ℕ) (o : Outcome) → served steps ≤ frames →
+    Solve book-a eqs (record { budget = budget; room = served steps; free = 98 }) (1 ∷ []) o →
+    Defined book-a 100 slate (solve (1 ∷ []) budget steps 900 frames) (answer-of o)
+solve-says budget steps frames o f t =
+    inr (no (lit≤ tt), (None, inl (atom, refl), inr (neither (lit≤ tt) f, (o, t, refl))))
+
+wrong-mode : Check book-a eqs 98 (1 ∷ []) (step-of 1 1 ∷ step-of 1 2 ∷ step-of 3 0 ∷ []) (unlawful 2 5)
+wrong-mode = inr (no (lit≤ tt), inl (solved-1, inr (no (lit≤ tt), inl (solved-2, refl))))
+
+wrong-loop : Check book-a eqs 98 (1 ∷ []) (step-of 1 1 ∷ step-of 2 0 ∷ []) (unlawful 1 7)
+wrong-loop = inr (no (lit≤ tt), inl (solved-1, inr (no (lit≤ tt), inr (no-ancestor, refl))))
+
+last-steps : CheckFrom book-a eqs 98 r2 2 (step-of 2 1 ∷ step-of 3 0 ∷ []) passed
+last-steps = inr (no (lit≤ tt), inl (solved-3, inr (no (lit≤ tt), inl (solved-4, refl))))
+
+all-steps : Check book-a eqs 98 (1 ∷ []) record-a passed
+all-steps = inr (no (lit≤ tt), inl (solved-1, inr (no (lit≤ tt), inl (solved-2, last-steps))))
+
+-- the answers after p(z) is written, each by its tests in their order
+pub searches-right : RightFrom book-a 100 slate searches-a
+searches-right = (
+  solve-says 5 10 10 (spent 5) (lit≤ tt) search-5,
+  (
+    solve-says 100 3 3 (full 5) (lit≤ tt) search-3,
+    (solve-says 6 4 4 (granted 6 record-a) (lit≤ tt) search-6, tt),
+  ),
+)
+
+pub checks-right : RightFrom book-a 100 slate (checks-a ++ searches-a)
+checks-right = (
+  check-says (step-of 1 1 ∷ step-of 1 2 ∷ step-of 3 0 ∷ []) 3 (unlawful 2 5) (lit≤ tt) (lit≤ tt) wrong-mode,
+  (
+    check-says (step-of 1 1 ∷ step-of 2 0 ∷ []) 2 (unlawful 1 7) (lit≤ tt) (lit≤ tt) wrong-loop,
+    (check-says record-a 4 passed (lit≤ tt) (lit≤ tt) all-steps, searches-right),
+  ),
+)
+
 pub sitting-a-right : Right book-a 100 sitting-a
 sitting-a-right = (
   (lit< tt, inr (no (lit≤ tt), inl (lit< tt, refl))),
-  (
-    (lit< tt, inr (no (lit≤ tt), inl (lit< tt, refl))),
-    (
-      inr (
-        neither (lit≤ tt) (lit≤ tt),
-        (
-          None,
-          inl (atom, refl),
-          inr (
-            neither (lit≤ tt) (lit≤ tt),
-            (unlawful 2 5, inr (no (lit≤ tt), inl (solved-1, inr (no (lit≤ tt), inl (solved-2, refl)))), refl),
-          ),
-        ),
-      ),
-      (
-        inr (
-          neither (lit≤ tt) (lit≤ tt),
-          (
-            None,
-            inl (atom, refl),
-            inr (
-              neither (lit≤ tt) (lit≤ tt),
-              (unlawful 1 7, inr (no (lit≤ tt), inl (solved-1, inr (no (lit≤ tt), inr (no-ancestor, refl)))), refl),
-            ),
-          ),
-        ),
-        (
-          inr (
-            neither (lit≤ tt) (lit≤ tt),
-            (
-              None,
-              inl (atom, refl),
-              inr (
-                neither (lit≤ tt) (lit≤ tt),
-                (
-                  passed,
-                  inr (
-                    no (lit≤ tt),
-                    inl (
-                      solved-1,
-                      inr (
-                        no (lit≤ tt),
-                        inl (
-                          solved-2,
-                          inr (no (lit≤ tt), inl (solved-3, inr (no (lit≤ tt), inl (solved-4, refl)))),
-                        ),
-                      ),
-                    ),
-                  ),
-                  refl,
-                ),
-              ),
-            ),
-          ),
-          (
-            inr (no (lit≤ tt), (None, inl (atom, refl), inr (neither (lit≤ tt) (lit≤ tt), (spent 5, search-5, refl)))),
-            (
-              inr (no (lit≤ tt), (None, inl (atom, refl), inr (neither (lit≤ tt) (lit≤ tt), (full 5, search-3, refl)))),
-              (
-                inr (
-                  no (lit≤ tt),
-                  (
-                    None,
-                    inl (atom, refl),
-                    inr (
-                      neither (lit≤ tt) (lit≤ tt),
-                      (granted 6 record-a, search-6, refl),
-                    ),
-                  ),
-                ),
-                tt,
-              ),
-            ),
-          ),
-        ),
-      ),
-    ),
-  ),
+  ((lit< tt, inr (no (lit≤ tt), inl (lit< tt, refl))), checks-right),
 )

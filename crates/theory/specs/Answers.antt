@@ -13,7 +13,8 @@ use Rattle.theory.specs.Entries.{Entry}
 use Rattle.theory.specs.Search.{Limits, Outcome, granted, failed, spent, full, short, Solve}
 use Rattle.theory.specs.Check.{If, Verdict, passed, unlawful, no-cells, Check}
 use Rattle.theory.specs.Calls.{Call, write-open, write-leaf, write-node, equate, compare, solve, check}
-use Rattle.theory.specs.Calls.{Refusal, not-in-use, too-many-arguments, not-an-atom, too-long, too-short, unlawful-at}
+use Rattle.theory.specs.Calls.{Refusal, not-in-use, too-many-arguments, not-an-atom, too-long, too-short}
+use Rattle.theory.specs.Calls.{unlawful-at}
 use Rattle.theory.specs.Calls.{no-cell, clash, no-cell-after, spent-after, full-after}
 use Rattle.theory.specs.Calls.{Answer, wrote, accepted, same, different, grants, fails, passes, refused}
 use Rattle.theory.specs.Known.{Known}
@@ -94,4 +95,5 @@ module _ {V : Type 0} (book : List (Entry V)) (supplied : ℕ) where
       If ((8 < length goals) ⊎ (4096 < length steps)) (a ≡ refused too-long)
       (UsedOr k goals a (AtomsOr k goals a
       (If ((work < 9 * capacity supplied) ⊎ (frames < length steps)) (a ≡ refused too-short)
-      ((v : Verdict) × Check book (k .equations) (capacity supplied - k .used) goals steps v × (a ≡ answer-to v)))))
+      ((v : Verdict) × Check book (k .equations) (capacity supplied - k .used) goals steps v ×
+      (a ≡ answer-to v)))))

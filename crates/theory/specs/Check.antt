@@ -6,13 +6,15 @@ use Prim.Native.Nat.{ℕ, suc, _<_, _≤_}
 use lib.ListN.{length}
 use Rattle.theory.specs.Equations.{Equation, Solvable}
 use Rattle.theory.specs.Entries.{Entry}
-use Rattle.theory.specs.Records.{Step, Goal, Replay, Replayed, broken, went, start, step, replay, together, Leads, Lawful}
+use Rattle.theory.specs.Records.{Step, Goal, Replay, Replayed, broken, went, start, step, replay, together}
+use Rattle.theory.specs.Records.{Leads, Lawful}
 
 -- A where P holds, and B where it does not
 abbrev pub If : Type 0 → Type 0 → Type 0 → Type 0
 If P A B = (P × A) ⊎ ((P → ⊥) × B)
 
--- what check says: passed, the first bad step with the number of the rule that it breaks, or that an instance does not fit
+-- what check says: passed, the first bad step with the number of the rule that it breaks, or that an instance
+-- does not fit
 pub data Verdict : Type 0 where
   passed : Verdict
   unlawful : ℕ → ℕ → Verdict
@@ -81,7 +83,8 @@ module _ {V : Type 0} (book : List (Entry V)) (known : List (Equation V ℕ)) (f
 
   -- the i-th step is the first bad one, and breaks the rule
   abbrev pub FirstBad : List ℕ → List Step → ℕ → ℕ → Type 0
-  FirstBad goals steps i rule = (u : GoodUpTo goals steps (λ r rest. BreaksNext r rest rule)) × (length (u .before) ≡ i)
+  FirstBad goals steps i rule =
+      (u : GoodUpTo goals steps (λ r rest. BreaksNext r rest rule)) × (length (u .before) ≡ i)
 
   -- the verdict says exactly what it should
   pub record Exact (goals : List ℕ) (steps : List Step) (v : Verdict) : Type 0 where

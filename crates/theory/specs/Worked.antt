@@ -1,10 +1,11 @@
 -- A small book and a few sittings, answer by answer.
-use mathlib.Core.List.{List, [], _∷_}
+use mathlib.Core.List.{List, [], _∷_, _++_}
 use Prim.Native.Nat.{ℕ}
 use Rattle.theory.specs.Entries.{Entry, Kind, clause, cofact, Part, variable, node}
 use Rattle.theory.specs.Records.{Step, step-of}
 use Rattle.theory.specs.Calls.{Call, write-open, write-node, equate, compare, solve, check}
-use Rattle.theory.specs.Calls.{not-in-use, too-many-arguments, too-short, unlawful-at, no-cell, clash, spent-after, full-after}
+use Rattle.theory.specs.Calls.{not-in-use, too-many-arguments, too-short, unlawful-at, no-cell, clash}
+use Rattle.theory.specs.Calls.{spent-after, full-after}
 use Rattle.theory.specs.Calls.{Answer, wrote, accepted, same, different, grants, fails, passes, refused, Event}
 
 -- the leaf kind does not matter here: none of these terms has a leaf
@@ -46,18 +47,26 @@ book-a = q-fact ∷ p-clause ∷ q-clause ∷ []
 abbrev pub record-a : List Step
 record-a = step-of 1 1 ∷ step-of 1 2 ∷ step-of 2 1 ∷ step-of 3 0 ∷ []
 
--- p(z) is cell 1: two records that are refused, the lawful one, and three searches
-abbrev pub sitting-a : List (Event NoLeaf)
-sitting-a =
-    (write-node 2 [] gives wrote 0)
-    ∷ (write-node 0 (0 ∷ []) gives wrote 1)
-    ∷ (check (1 ∷ []) (step-of 1 1 ∷ step-of 1 2 ∷ step-of 3 0 ∷ []) 900 3 gives refused (unlawful-at 2 5))
+-- p(z) is cell 1: two records that are refused, and the lawful one
+abbrev pub checks-a : List (Event NoLeaf)
+checks-a =
+    (check (1 ∷ []) (step-of 1 1 ∷ step-of 1 2 ∷ step-of 3 0 ∷ []) 900 3 gives refused (unlawful-at 2 5))
     ∷ (check (1 ∷ []) (step-of 1 1 ∷ step-of 2 0 ∷ []) 900 2 gives refused (unlawful-at 1 7))
     ∷ (check (1 ∷ []) record-a 900 4 gives passes)
-    ∷ (solve (1 ∷ []) 5 10 900 10 gives refused (spent-after 5))
+    ∷ []
+
+-- a search that lacks a try, one that lacks a record step, and one that has both
+abbrev pub searches-a : List (Event NoLeaf)
+searches-a =
+    (solve (1 ∷ []) 5 10 900 10 gives refused (spent-after 5))
     ∷ (solve (1 ∷ []) 100 3 900 3 gives refused (full-after 5))
     ∷ (solve (1 ∷ []) 6 4 900 4 gives grants 6 record-a)
     ∷ []
+
+-- a sitting over book A
+abbrev pub sitting-a : List (Event NoLeaf)
+sitting-a =
+    (write-node 2 [] gives wrote 0) ∷ (write-node 0 (0 ∷ []) gives wrote 1) ∷ (checks-a ++ searches-a)
 
 -- X = s(X) and Y = s(s(Y)) have the same tree
 abbrev pub looping-sitting : List (Event NoLeaf)
@@ -82,7 +91,8 @@ open-sitting =
     ∷ (compare 0 1 900 gives same)
     ∷ []
 
--- s(z) and s(z,z) clash; no goals are granted at once, z fails over an empty book, and a slate of three cells is full
+-- s(z) and s(z,z) clash; no goals are granted at once, z fails over an empty book, and a slate of three cells
+-- is full
 abbrev pub refusing-sitting : List (Event NoLeaf)
 refusing-sitting =
     (write-node 2 [] gives wrote 0)
