@@ -7,7 +7,7 @@ use Rattle.theory.specs.Calls.{Call, Answer, Event}
 use Rattle.theory.specs.Known.{Known, nothing, after, known, known-from}
 use Rattle.theory.specs.Answers.{Defined}
 use Rattle.theory.specs.Sittings.{Right}
-use Rattle.theory.specs.Carried.{Cell, StandsFor, and-then, Answers, Carries}
+use Rattle.theory.specs.Carried.{Cell, StandsFor, and-then, RightCall, Carries}
 use Rattle.theory.proofs.SoundSittings.{sound-right}
 use Rattle.theory.proofs.Histories.{right-push}
 use Rattle.theory.proofs.LawOfSittings.{law}
@@ -20,7 +20,7 @@ module _ {V : Type 0} (book : List (Entry V)) where
 
   -- a call that keeps its contract carries every right sitting on
   pub carries : BookRules book → (supplied : ℕ) (cs cs′ : List (Cell V)) (c : Call V) (a : Answer) →
-      Answers book supplied cs c a cs′ → Carries book supplied cs c a cs′
+      RightCall book supplied cs c a cs′ → Carries book supplied cs c a cs′
   carries rules supplied cs cs′ c a f h r s =
       let d : Defined book supplied (known book h) c a × StandsFor cs′ (after book (known book h) c a) =
       f (known book h) (sound-right book rules supplied h r) s in

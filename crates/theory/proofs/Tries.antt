@@ -170,11 +170,11 @@ module _ {V : Type 0} (book : List (Entry V)) where
       (subst (λ k. In (step-of 3 k) (entries-from 0 book)) (zero-add n) (in-entries 0 n book e f)))
 
   -- the rules allow the step
-  abbrev Allowed : Replay V → Step → Type 0
+  abbrev pub Allowed : Replay V → Step → Type 0
   Allowed r x = (m : Replay V) × (step book r x ≡ went m)
 
   -- every try goes on
-  allowed : (r : Replay V) (x : Step) → In x (tries book (r .pending)) → Allowed r x
+  pub allowed : (r : Replay V) (x : Step) → In x (tries book (r .pending)) → Allowed r x
   allowed r x i = first (r .pending) refl i
     where
       by : (m : Replay V) (y : Step) → Took book r y m → x ≡ y → Allowed r x

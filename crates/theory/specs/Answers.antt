@@ -10,6 +10,7 @@ use Rattle.std.specs.declared.option.Option.{Option}
 use Rattle.std.specs.declared.option.Option.the-variants.{Some, None}
 use Rattle.theory.specs.Equations.{Equation, equal, Solvable, Entails, IsAtom}
 use Rattle.theory.specs.Entries.{Entry}
+use Rattle.theory.specs.Records.{Term}
 use Rattle.theory.specs.Search.{Limits, Outcome, granted, failed, spent, full, short, Solve}
 use Rattle.theory.specs.Check.{If, Verdict, passed, unlawful, no-cells, Check}
 use Rattle.theory.specs.Calls.{Call, write-open, write-leaf, write-node, equate, compare, solve, check}
@@ -97,3 +98,24 @@ module _ {V : Type 0} (book : List (Entry V)) (supplied : ℕ) where
       (If ((work < 9 * capacity supplied) ⊎ (frames < length steps)) (a ≡ refused too-short)
       ((v : Verdict) × Check book (k .equations) (capacity supplied - k .used) goals steps v ×
       (a ≡ answer-to v)))))
+
+-- the statement holds or does not, and it is known which
+abbrev pub Decided : Type 0 → Type 0
+Decided P = P ⊎ (P → ⊥)
+
+-- the questions about equations that the answers turn on are decided
+pub record Decisions (V : Type 0) : Type 0 where
+  pub of-cells : (es : List (Equation V ℕ)) → Decided (Solvable es)
+  pub of-terms : (es : List (Equation V Term)) → Decided (Solvable es)
+  pub entailed : (es : List (Equation V ℕ)) (x y : ℕ) → Decided (Entails es x y)
+  pub atom : (es : List (Equation V ℕ)) (x : ℕ) → Decided (IsAtom es x)
+
+-- the symbol number of a node that is written has 16 bits
+abbrev pub Symbols : {V : Type 0} → Call V → Type 0
+Symbols write-open = Unit {0}
+Symbols (write-leaf v) = Unit {0}
+Symbols (write-node f args) = f < 65536
+Symbols (equate x y w) = Unit {0}
+Symbols (compare x y w) = Unit {0}
+Symbols (solve goals b s w f) = Unit {0}
+Symbols (check goals steps w f) = Unit {0}
