@@ -13,7 +13,7 @@ use Rattle.theory.specs.Search.{Stuck, May, without}
 use Rattle.theory.specs.Search.{done, exhausted, back, out-of-tries, out-of-steps, out-of-cells, falls, stands}
 use Rattle.theory.proofs.Steps.{took, went-inj}
 use Rattle.theory.proofs.Tries.{In, tried}
-use Rattle.theory.proofs.Replays.{grows, earlier}
+use Rattle.theory.proofs.Replays.{Finishes, grows, earlier}
 
 abbrev IsFailed : Outcome → Type 0
 IsFailed (granted n s) = ⊥
@@ -23,13 +23,9 @@ IsFailed (full n) = ⊥
 IsFailed (short n) = ⊥
 
 module _ {V : Type 0} (book : List (Entry V)) (known more : List (Equation V ℕ)) (lim : Limits) where
-  -- the steps lead to the end of a lawful record, by what is known later
-  abbrev Finishes : Replay V → List Step → Type 0
-  Finishes r xs = (t : Replay V) × Leads book r xs t × (t .pending ≡ []) × Solvable (together (known ++ more) t)
-
-  -- no try that is left begins such steps
+  -- no try that is left begins a lawful end, by what is known later
   abbrev Dead : Point V → Type 0
-  Dead p = (x : Step) (xs : List Step) → In x (p .left) → Finishes (p .at) (x ∷ xs) → ⊥
+  Dead p = (x : Step) (xs : List Step) → In x (p .left) → Finishes book (known ++ more) (p .at) (x ∷ xs) → ⊥
 
   -- a search that fails does not begin at its end
   pending : {p : Point V} {below : List (Point V)} {n : ℕ} {o : Outcome} → Searches book known lim p below n o →
@@ -51,24 +47,25 @@ module _ {V : Type 0} (book : List (Entry V)) (known more : List (Equation V ℕ
 
   -- a point is dead when its first try begins no such steps and the point without it is dead
   both-dead : (p : Point V) (x : Step) (xs : List Step) → p .left ≡ x ∷ xs →
-      ((ys : List Step) → Finishes (p .at) (x ∷ ys) → ⊥) → Dead (without p xs) → Dead p
+      ((ys : List Step) → Finishes book (known ++ more) (p .at) (x ∷ ys) → ⊥) → Dead (without p xs) → Dead p
   both-dead p x xs l a b y ys i f = go (subst (In y) l i)
     where
       go : (y ≡ x) ⊎ In y xs → ⊥
-      go (inl e) = a ys (subst (λ z. Finishes (p .at) (z ∷ ys)) e f)
+      go (inl e) = a ys (subst (λ z. Finishes book (known ++ more) (p .at) (z ∷ ys)) e f)
       go (inr j) = b y ys j f
 
   -- a try that fell begins none, since its equations have no reading
   fallen : (p : Point V) (n : ℕ) (x : Step) (xs : List Step) (r : Replay V) → May book known lim p n x xs r →
-      ¬ Solvable (together known r) → (ys : List Step) → Finishes (p .at) (x ∷ ys) → ⊥
+      ¬ Solvable (together known r) → (ys : List Step) → Finishes book (known ++ more) (p .at) (x ∷ ys) → ⊥
   fallen p n x xs r m u ys (t, (q, s, l), d, v) =
       let l′ : Leads book r ys t = subst (λ z. Leads book z ys t) (went-inj (sym s ∙ m .after)) l in
       u (earlier known more r t (grows book r ys t l′) v)
 
   -- a try that stood begins none if the point after it is dead
   stood : (p : Point V) (n : ℕ) (x : Step) (xs : List Step) (r : Replay V) → May book known lim p n x xs r →
-      r .pending ≢ [] → ((y : Step) (ys : List Step) → In y (tries book (r .pending)) → Finishes r (y ∷ ys) → ⊥) →
-      (ys : List Step) → Finishes (p .at) (x ∷ ys) → ⊥
+      r .pending ≢ [] → ((y : Step) (ys : List Step) → In y (tries book (r .pending)) →
+      Finishes book (known ++ more) r (y ∷ ys) → ⊥) →
+      (ys : List Step) → Finishes book (known ++ more) (p .at) (x ∷ ys) → ⊥
   stood p n x xs r m a dead ys (t, (q, s, l), d, v) =
       go ys (subst (λ z. Leads book z ys t) (went-inj (sym s ∙ m .after)) l)
     where
@@ -88,7 +85,7 @@ module _ {V : Type 0} (book : List (Entry V)) (known more : List (Equation V ℕ
   dead (falls {p = p} {n = n} x xs r m u t) b =
       (both-dead p x xs (m .next) (fallen p n x xs r m u) (dead t b .0), dead t b .1)
   dead (stands {p = p} {n = n} x xs r m u t) b =
-      let after : (ys : List Step) → Finishes (p .at) (x ∷ ys) → ⊥ =
+      let after : (ys : List Step) → Finishes book (known ++ more) (p .at) (x ∷ ys) → ⊥ =
       stood p n x xs r m (pending t b (no-tries r)) (dead t b .0) in
       (both-dead p x xs (m .next) after (dead t b .1 .0), dead t b .1 .1)
 

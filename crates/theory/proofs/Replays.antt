@@ -59,6 +59,10 @@ module _ {V : Type 0} (book : List (Entry V)) where
       go (broken k) e rest = absurd (not-broken e)
       go (went n) e rest = ap (λ q. replay-from book q xs) (went-inj e) ∙ rest
 
+-- the steps lead to the end of a record that is lawful by the equations
+abbrev pub Finishes : {V : Type 0} → List (Entry V) → List (Equation V ℕ) → Replay V → List Step → Type 0
+Finishes {V} book es r xs = (t : Replay V) × Leads book r xs t × (t .pending ≡ []) × Solvable (together es t)
+
 module _ {V : Type 0} where
   -- a reading of more knowledge and a later replay is one of less knowledge and an earlier replay
   pub earlier : (known more : List (Equation V ℕ)) (r t : Replay V) → Grown r t →

@@ -26,7 +26,8 @@ among-in x [] k q = absurd (none-some q)
 among-in x (y ∷ ys) zero q = inl (sym (some-inj q))
 among-in x (y ∷ ys) (suc k) q = inr (among-in x ys k q)
 
-in-among : (x : Step) (xs : List Step) → In x xs → Among x xs
+-- its place
+pub in-among : (x : Step) (xs : List Step) → In x xs → Among x xs
 in-among x [] i = absurd i
 in-among x (y ∷ ys) (inl e) = (0, ap Some (sym e))
 in-among x (y ∷ ys) (inr i) = let w : Among x ys = in-among x ys i in (suc (w .0), w .1)
@@ -41,7 +42,7 @@ in-right : (x : Step) (l k : List Step) → In x k → In x (l ++ k)
 in-right x [] k i = i
 in-right x (y ∷ l) k i = inr (in-right x l k i)
 
-in-either : (x : Step) (l k : List Step) → In x (l ++ k) → In x l ⊎ In x k
+pub in-either : (x : Step) (l k : List Step) → In x (l ++ k) → In x l ⊎ In x k
 in-either x [] k i = inr i
 in-either x (y ∷ l) k (inl e) = inl (inl e)
 in-either x (y ∷ l) k (inr i) = go (in-either x l k i)
