@@ -8,7 +8,7 @@ use lib.ListN.{length}
 use Rattle.std.specs.declared.option.Option.{Option}
 use Rattle.std.specs.declared.option.Option.the-variants.{Some, None}
 use Rattle.std.proofs.shelf.Tests.{cases-lt}
-use Rattle.theory.specs.Equations.{Equation, equal, Solvable, Entails, IsAtom}
+use Rattle.theory.specs.Equations.{Equation, equal, IsAtom}
 use Rattle.theory.specs.Entries.{Entry}
 use Rattle.theory.specs.Records.{Step, start}
 use Rattle.theory.specs.Search.{Outcome, Solve}

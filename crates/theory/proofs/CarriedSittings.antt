@@ -1,6 +1,6 @@
 -- A call that keeps its contract carries every right sitting on.
 use mathlib.Core.Path.{_≡_, refl, sym, subst}
-use mathlib.Core.List.{List, [], _∷_, _++_}
+use mathlib.Core.List.{List, [], _∷_}
 use Prim.Native.Nat.{ℕ}
 use Rattle.theory.specs.Entries.{Entry, BookRules}
 use Rattle.theory.specs.Calls.{Call, Answer, Event}

@@ -1,14 +1,14 @@
 -- Each verdict of check says exactly what it should.
 use mathlib.Core.Path.{_≡_, refl, sym, _∙_, ap, subst}
 use mathlib.Core.List.{List, [], _∷_, _++_, append-nil, cons≢nil}
-use mathlib.Core.Logic.{_⊎_, inl, inr, _≢_, _↔_}
+use mathlib.Core.Logic.{inl, inr}
 use Prim.Native.Nat.{ℕ, suc, _+_, _<_, _≤_}
 use native.Mathlib.Nat.{zero-add, add-zero, add-suc, suc-add}
 use native.Mathlib.Omega.{arith}
 use lib.ListN.{length}
 use Rattle.theory.specs.Equations.{Equation, Solvable}
 use Rattle.theory.specs.Entries.{Entry}
-use Rattle.theory.specs.Records.{Step, Goal, Replay, Replayed, broken, went, start, step, Leads, replay, together}
+use Rattle.theory.specs.Records.{Step, Goal, Replay, Replayed, broken, went, start, step, Leads, together}
 use Rattle.theory.specs.Check.{If, Verdict, passed, unlawful, no-cells, AtEnd, CheckFrom, Check, Fitting, Good}
 use Rattle.theory.specs.Check.{Breaks, BreaksNext, Overflows, OverflowsNext, GoodUpTo, FirstBad, Exact}
 use Rattle.theory.proofs.Elements.{never}

@@ -1,27 +1,25 @@
 -- What a defined answer says of the call.
-use mathlib.Core.Path.{_≡_, refl, sym, subst}
+use mathlib.Core.Path.{_≡_, refl, subst}
 use mathlib.Core.Bool.{Bool, true, false}
 use mathlib.Core.List.{List, [], _∷_, _++_}
 use mathlib.Core.Logic.{_⊎_, inl, inr}
 use Prim.Native.Nat.{ℕ, _-_, _<_, _≤_}
-use native.Mathlib.Omega.{arith}
 use lib.Dec.{ltb, lit≤}
-use lib.ListN.{length}
 use Rattle.std.specs.Finite.{All}
 use Rattle.std.specs.declared.option.Option.{Option}
 use Rattle.std.specs.declared.option.Option.the-variants.{Some, None}
 use Rattle.std.proofs.shelf.Tests.{ltb-true}
-use Rattle.theory.specs.Equations.{Equation, equal, Solvable, Entails}
+use Rattle.theory.specs.Equations.{equal, Solvable, Entails}
 use Rattle.theory.specs.Entries.{Entry}
 use Rattle.theory.specs.Records.{Step}
 use Rattle.theory.specs.Search.{Outcome, granted, failed, spent, full, short, Solve}
 use Rattle.theory.specs.Check.{If, Verdict, Check}
-use Rattle.theory.specs.Calls.{Call, write-node, equate, compare, solve, check}
+use Rattle.theory.specs.Calls.{write-node, equate, compare, solve, check}
 use Rattle.theory.specs.Calls.{Refusal, not-in-use, too-many-arguments, not-an-atom, too-long, too-short}
 use Rattle.theory.specs.Calls.{clash, number}
 use Rattle.theory.specs.Calls.{Answer, wrote, accepted, same, different, grants, fails, refused}
 use Rattle.theory.specs.Known.{Known}
-use Rattle.theory.specs.Answers.{capacity, first-unused, answer-of, answer-to, UsedOr, AtomsOr, NextCell}
+use Rattle.theory.specs.Answers.{capacity, first-unused, answer-of, answer-to, UsedOr, AtomsOr}
 use Rattle.theory.specs.Answers.{limits, Defined}
 use Rattle.theory.specs.Sittings.{NotTaken}
 use Rattle.theory.proofs.Elements.{never}

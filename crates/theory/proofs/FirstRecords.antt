@@ -1,19 +1,18 @@
 -- A search that grants has found the first lawful record, in the order of the tries.
 use mathlib.Core.Path.{_≡_, refl, sym, _∙_, ap, subst}
-use mathlib.Core.List.{List, [], _∷_, _++_, append-nil, append-assoc, cons≢nil}
+use mathlib.Core.List.{List, [], _∷_, _++_, append-nil, append-assoc}
 use mathlib.Core.Logic.{_⊎_, inl, inr, _≢_}
-use Prim.Native.Nat.{ℕ, zero, suc, _+_, _<_}
+use Prim.Native.Nat.{ℕ, suc, _+_}
 use native.Mathlib.Nat.{zero-add, suc-add}
 use native.Mathlib.Omega.{arith}
 use lib.ListN.{length}
 use Rattle.std.specs.Finite.{nth, All}
-use Rattle.std.specs.declared.option.Option.the-variants.{Some}
 use Rattle.std.proofs.shelf.Elements.{all-push}
 use Rattle.theory.specs.Equations.{Equation, Solvable}
 use Rattle.theory.specs.Entries.{Entry}
-use Rattle.theory.specs.Records.{Step, Goal, Replay, went, start, step, Leads, Lawful, together}
+use Rattle.theory.specs.Records.{Step, Replay, went, start, step, Leads, Lawful, together}
 use Rattle.theory.specs.Search.{tries, Among, Earlier, NoLater, Point, Limits, Outcome, granted, failed, spent}
-use Rattle.theory.specs.Search.{full, short, Searches, Solve, May, Stuck, without, onward}
+use Rattle.theory.specs.Search.{full, short, Searches, Solve, May, Stuck, without}
 use Rattle.theory.specs.Search.{done, exhausted, back, out-of-tries, out-of-steps, out-of-cells, falls, stands}
 use Rattle.theory.proofs.Steps.{took, went-inj}
 use Rattle.theory.proofs.Tries.{In, in-among, in-either, tried}

@@ -1,6 +1,6 @@
 -- A search that grants has found a lawful record within its limits.
-use mathlib.Core.Path.{_≡_, refl, sym, subst}
-use mathlib.Core.List.{List, [], _∷_, _++_}
+use mathlib.Core.Path.{refl, sym, subst}
+use mathlib.Core.List.{List}
 use mathlib.Core.Logic.{_≢_}
 use Prim.Native.Nat.{ℕ, suc, _+_, _<_, _≤_}
 use native.Mathlib.Omega.{arith}
@@ -10,9 +10,9 @@ use Rattle.std.proofs.shelf.Elements.{all-weaker}
 use Rattle.std.proofs.shelf.Lists.{length-push}
 use Rattle.theory.specs.Equations.{Equation, Solvable}
 use Rattle.theory.specs.Entries.{Entry}
-use Rattle.theory.specs.Records.{Step, Replay, start, Leads, together}
+use Rattle.theory.specs.Records.{Step, start, Leads, together}
 use Rattle.theory.specs.Search.{Point, Limits, Outcome, granted, failed, spent, full, short, Searches, Solve}
-use Rattle.theory.specs.Search.{Found, May}
+use Rattle.theory.specs.Search.{Found}
 use Rattle.theory.specs.Search.{without, onward}
 use Rattle.theory.specs.Search.{done, exhausted, back, out-of-tries, out-of-steps, out-of-cells, falls, stands}
 use Rattle.theory.proofs.Replays.{leads-push, leads-replay, started}

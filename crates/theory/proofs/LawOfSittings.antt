@@ -1,6 +1,6 @@
 -- Right sittings keep the law.
 use mathlib.Core.Path.{_≡_, refl, sym, _∙_, ap, subst}
-use mathlib.Core.List.{List, _++_, map}
+use mathlib.Core.List.{List, map}
 use mathlib.Core.Logic.{_⊎_, inl, inr, _↔_}
 use Prim.Native.Nat.{ℕ, _-_}
 use Rattle.std.specs.Finite.{All}
@@ -11,8 +11,8 @@ use Rattle.theory.specs.Entries.{Entry, BookRules}
 use Rattle.theory.specs.Held.{Held}
 use Rattle.theory.specs.Records.{Step, Term, cell, Replay, start, replay, Lawful, together}
 use Rattle.theory.specs.Check.{Verdict, passed, unlawful, no-cells, Check, Fitting, Exact}
-use Rattle.theory.specs.Calls.{compare, solve, check, Answer, grants, fails, passes, refused, Event}
-use Rattle.theory.specs.Known.{Known, Sound, placed, recorded, known}
+use Rattle.theory.specs.Calls.{compare, solve, check, Answer, grants, fails, passes, Event}
+use Rattle.theory.specs.Known.{Known, placed, recorded, known}
 use Rattle.theory.specs.Answers.{capacity, limits, answer-to}
 use Rattle.theory.specs.Sittings.{Right, At, NotTaken, Stands, Law}
 use Rattle.theory.proofs.Elements.{never}

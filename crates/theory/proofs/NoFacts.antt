@@ -1,10 +1,8 @@
 -- A book in which every entry has a body goal has no finite proofs, and so holds nothing.
-use mathlib.Core.Path.{_≡_, refl, subst}
-use mathlib.Core.List.{List, [], _∷_}
-use Prim.Native.Nat.{ℕ, zero, suc, _<_}
+use mathlib.Core.List.{List}
+use Prim.Native.Nat.{_<_}
 use lib.ListN.{length}
-use Rattle.std.specs.Finite.{nth, All}
-use Rattle.std.specs.declared.option.Option.the-variants.{Some}
+use Rattle.std.specs.Finite.{All}
 use Rattle.theory.specs.Trees.{Tree}
 use Rattle.theory.specs.Entries.{Entry}
 use Rattle.theory.specs.Held.{FiniteProof, by-entry, Held}

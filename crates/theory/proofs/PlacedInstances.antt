@@ -7,7 +7,6 @@ use Prim.Native.Nat.{ℕ, zero, suc, _+_, _-_, _<_, _≤_}
 use native.Mathlib.Omega.{arith}
 use lib.ListN.{length, getD}
 use Rattle.std.specs.Finite.{nth, All}
-use Rattle.std.specs.declared.option.Option.the-variants.{Some}
 use Rattle.std.proofs.shelf.Elements.{all-append, all-push, all-weaker, all-map}
 use Rattle.std.proofs.shelf.Lists.{getD-append-left, getD-push, length-push}
 use Rattle.std.proofs.shelf.Tests.{cases-lt}
@@ -20,7 +19,7 @@ use Rattle.theory.specs.Records.{expand, close}
 use Rattle.theory.specs.Records.{Leads, together}
 use Rattle.theory.specs.Known.{Names, placed}
 use Rattle.theory.proofs.Elements.{all-or, all-nth}
-use Rattle.theory.proofs.Readings.{meets-left, meets-right, meets-both, names-weaker, all-names-weaker}
+use Rattle.theory.proofs.Readings.{meets-left, meets-right, meets-both, all-names-weaker}
 use Rattle.theory.proofs.Readings.{Agrees, there-all, back-all}
 use Rattle.theory.proofs.Steps.{Took, clause-step, loop-step, entry-step, took}
 use Rattle.theory.proofs.NewCells.{choose}

@@ -4,7 +4,6 @@ use mathlib.Core.List.{List, [], _∷_, _++_, map, append-nil}
 use Prim.Native.Nat.{ℕ, suc, _+_, _<_, _≤_}
 use native.Mathlib.Omega.{arith}
 use lib.Dec.{lit<}
-use lib.ListN.{length}
 use Rattle.std.specs.Finite.{All}
 use Rattle.std.proofs.shelf.Elements.{all-append, all-push, all-weaker}
 use Rattle.theory.specs.Trees.{Tree, IsTree}

@@ -7,9 +7,8 @@ use Prim.Native.Nat.{ℕ, zero, suc, _+_}
 use native.Mathlib.Nat.{add-zero, add-suc, suc-add, zero-add}
 use lib.Dec.{eqb}
 use Rattle.std.specs.Finite.{nth}
-use Rattle.std.specs.declared.option.Option.{Option}
-use Rattle.std.specs.declared.option.Option.the-variants.{Some, None}
-use Rattle.std.proofs.shelf.Tests.{true≢false, false≢true, eqb-true, eq-eqb}
+use Rattle.std.specs.declared.option.Option.the-variants.{Some}
+use Rattle.std.proofs.shelf.Tests.{false≢true, eqb-true, eq-eqb}
 use Rattle.theory.specs.Entries.{Entry, Kind, clause, cofact}
 use Rattle.theory.specs.Records.{Step, step-of, Goal, Replay, went, step, expand, close, member}
 use Rattle.theory.specs.Search.{tries, tries-of, clauses-from, entries-from, Among}

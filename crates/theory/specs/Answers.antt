@@ -14,7 +14,7 @@ use Rattle.theory.specs.Records.{Term}
 use Rattle.theory.specs.Search.{Limits, Outcome, granted, failed, spent, full, short, Solve}
 use Rattle.theory.specs.Check.{If, Verdict, passed, unlawful, no-cells, Check}
 use Rattle.theory.specs.Calls.{Call, write-open, write-leaf, write-node, equate, compare, solve, check}
-use Rattle.theory.specs.Calls.{Refusal, not-in-use, too-many-arguments, not-an-atom, too-long, too-short}
+use Rattle.theory.specs.Calls.{not-in-use, too-many-arguments, not-an-atom, too-long, too-short}
 use Rattle.theory.specs.Calls.{unlawful-at}
 use Rattle.theory.specs.Calls.{no-cell, clash, no-cell-after, spent-after, full-after}
 use Rattle.theory.specs.Calls.{Answer, wrote, accepted, same, different, grants, fails, passes, refused}

@@ -5,7 +5,7 @@ use lib.ListN.{getD}
 use Rattle.std.specs.Finite.{All}
 use Rattle.theory.specs.Equations.{Equation, is-leaf, is-node, equal, rename, Solvable}
 use Rattle.theory.specs.Entries.{Entry}
-use Rattle.theory.specs.Records.{Step, Term, cell, part, Replay, replay}
+use Rattle.theory.specs.Records.{Term, cell, part, Replay, replay}
 use Rattle.theory.specs.Calls.{Call, write-open, write-leaf, write-node, equate, compare, solve, check}
 use Rattle.theory.specs.Calls.{Answer, wrote, accepted, same, different, grants, fails, passes, refused, Event}
 

@@ -1,7 +1,6 @@
 -- A small book and a few sittings, answer by answer.
 use mathlib.Core.List.{List, [], _∷_, _++_}
-use Prim.Native.Nat.{ℕ}
-use Rattle.theory.specs.Entries.{Entry, Kind, clause, cofact, Part, variable, node}
+use Rattle.theory.specs.Entries.{Entry, clause, cofact, variable, node}
 use Rattle.theory.specs.Records.{Step, step-of}
 use Rattle.theory.specs.Calls.{Call, write-open, write-node, equate, compare, solve, check}
 use Rattle.theory.specs.Calls.{not-in-use, too-many-arguments, too-short, unlawful-at, no-cell, clash}
