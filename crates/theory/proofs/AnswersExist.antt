@@ -25,6 +25,7 @@ use Rattle.theory.proofs.SearchesEnd.{search-ends, check-ends}
 abbrev Some-answer : (Answer → Type 0) → Type 0
 Some-answer P = (a : Answer) × P a
 
+-- one number is below another or is not
 below : (a b : ℕ) → Decided (a < b)
 below a b = go (cases-lt a b)
   where
@@ -35,6 +36,7 @@ below a b = go (cases-lt a b)
     go (inl h) = inl h
     go (inr h) = inr (no h)
 
+-- one of two decided statements holds or none does
 either : {P Q : Type 0} → Decided P → Decided Q → Decided (P ⊎ Q)
 either (inl p) q = inl (inl p)
 either (inr p) (inl q) = inl (inr q)
@@ -50,9 +52,11 @@ one-or : {P : Type 0} (x : Answer) (Q : Answer → Type 0) → Decided P → Som
 one-or x Q (inl p) w = (x, inl (p, refl))
 one-or x Q (inr n) w = (w .0, inr (n, w .1))
 
+-- one answer or another
 this-or-that : {P : Type 0} (x y : Answer) → Decided P → Some-answer (λ a. If P (a ≡ x) (a ≡ y))
 this-or-that x y d = one-or x (λ a. a ≡ y) d (y, refl)
 
+-- the first goal that is no atom can be found
 non-atom : {V : Type 0} → Decisions V → (es : List (Equation V ℕ)) (gs : List ℕ) →
     (o : Option ℕ) × FirstNonAtom es gs o
 non-atom d es [] = (None, refl)
@@ -64,6 +68,7 @@ non-atom d es (g ∷ gs) = go (d .atom es g) (non-atom d es gs)
     go (inr n) w = (Some g, inr (n, refl))
 
 module _ {V : Type 0} (d : Decisions V) (k : Known V) where
+  -- the first unused cell is refused, or some answer is as it should be
   used-or : (cs : List ℕ) (Q : Answer → Type 0) → Some-answer Q → Some-answer (λ a. UsedOr k cs a (Q a))
   used-or cs Q w = go (first-unused (k .used) cs)
     where
@@ -74,6 +79,7 @@ module _ {V : Type 0} (d : Decisions V) (k : Known V) where
       go None = w
       go (Some c) = (refused (not-in-use c), refl)
 
+  -- so is the first goal that is no atom
   atoms-or : (gs : List ℕ) (Q : Answer → Type 0) → Some-answer Q → Some-answer (λ a. AtomsOr k gs a (Q a))
   atoms-or gs Q w = go (non-atom d (k .equations) gs)
     where
@@ -81,10 +87,12 @@ module _ {V : Type 0} (d : Decisions V) (k : Known V) where
       go (None, f) = (w .0, (None, f, w .1))
       go (Some c, f) = (refused (not-an-atom c), (Some c, f, refl))
 
+  -- a write has an answer
   next-cell : (supplied : ℕ) → Some-answer (NextCell supplied k)
   next-cell supplied = this-or-that (wrote (k .used)) (refused no-cell) (below (k .used) (capacity supplied))
 
   module _ (book : List (Entry V)) (supplied : ℕ) where
+    -- a search has an answer
     searched : (goals : List ℕ) (b s : ℕ) →
         Some-answer (λ a. (o : Outcome) × Solve book (k .equations) (limits supplied k b s) goals o ×
         (a ≡ answer-of o))
@@ -93,6 +101,7 @@ module _ {V : Type 0} (d : Decisions V) (k : Known V) where
         search-ends (d .of-terms) book (k .equations) (limits supplied k b s) goals in
         (answer-of (w .0), (w .0, w .1, refl))
 
+    -- and so has a check
     checked : (goals : List ℕ) (steps : List Step) → Some-answer (λ a.
         (v : Verdict) × Check book (k .equations) (capacity supplied - k .used) goals steps v × (a ≡ answer-to v))
     checked goals steps =

@@ -13,6 +13,7 @@ use Rattle.theory.proofs.Histories.{right-push}
 use Rattle.theory.proofs.LawOfSittings.{law}
 
 module _ {V : Type 0} (book : List (Entry V)) where
+  -- what is known after one more event
   known-push : (k : Known V) (h : List (Event V)) (c : Call V) (a : Answer) →
       known-from book k (and-then h c a) ≡ after book (known-from book k h) c a
   known-push k [] c a = refl

@@ -14,6 +14,7 @@ use Rattle.theory.specs.Check.{Breaks, BreaksNext, Overflows, OverflowsNext, G
 use Rattle.theory.proofs.Elements.{never}
 use Rattle.theory.proofs.Replays.{grows, cells-grow, leads-replay, earlier-same, started}
 
+-- what is not more is at most
 fits : (a b : ℕ) → (b < a → ⊥) → a ≤ b
 fits a b n = omega arith
 
@@ -25,6 +26,7 @@ module _ {V : Type 0} (book : List (Entry V)) (known : List (Equation V ℕ)) (f
       If (free < m .cells) (v ≡ no-cells)
       (If (Solvable (together known m)) (CheckFrom book known free m (suc i) xs v) (v ≡ unlawful i 7))
 
+  -- check is what it asks of its first step and the rest
   asks : (r : Replay V) (x : Step) (i : ℕ) (xs : List Step) (v : Verdict) →
       CheckFrom book known free r i (x ∷ xs) v → Asks i xs v (step book r x)
   asks r x i xs v g = go (step book r x) g
@@ -205,6 +207,7 @@ module _ {V : Type 0} (book : List (Entry V)) (known : List (Equation V ℕ)) (f
       go (went m) (e, c, n) (inr (l, inl (t, h))) = absurd (n t)
       go (went m) (e, c, n) (inr (l, inr (t, h))) = h ∙ ap (unlawful i) (sym e)
 
+  -- and so is a step that does not fit
   overflow-said : (rest : List Step) (r : Replay V) (i : ℕ) (v : Verdict) → OverflowsNext book known free r rest →
       CheckFrom book known free r i rest v → v ≡ no-cells
   overflow-said [] r i v b g = absurd b
@@ -217,12 +220,15 @@ module _ {V : Type 0} (book : List (Entry V)) (known : List (Equation V ℕ)) (f
 
   module _ (goals : List ℕ) (steps : List Step) (v : Verdict) (solvable : Solvable known)
       (g : Check book known free goals steps v) where
+    -- where check ends
     stop : Stop (start goals) 0 steps v
     stop = stops steps (start goals) 0 v (omega arith) (started known goals solvable) g
 
+    -- the steps before it are good
     good : (u : Stop (start goals) 0 steps v) → Good book known free goals (u .before) (u .at)
     good u = record { leads = u .leads; cells = u .cells; solvable = u .solvable }
 
+    -- the three verdicts, each both ways
     to-fitting : v ≡ passed → Fitting book known free goals steps
     to-fitting p =
         let e : (stop .rest ≡ []) × (stop .at .pending ≡ []) =

@@ -44,10 +44,12 @@ then : {S Q R : Type 0} → S ⊎ Q → (Q → S ⊎ R) → S ⊎ R
 then (inl r) f = inl r
 then (inr q) f = f q
 
+-- what is left where the call was taken
 taken : {S Q : Type 0} → (S → ⊥) → S ⊎ Q → Q
 taken n (inl s) = absurd (n s)
 taken n (inr q) = q
 
+-- a test that refuses the input, or the rest
 unless : {P Q : Type 0} (a : Answer) (r : Refusal) → number r ≤ 5 → If P (a ≡ refused r) Q → NotTaken a ⊎ Q
 unless a r n (inl (p, e)) = inl (r, e, n)
 unless a r n (inr (p, q)) = inr q
@@ -57,6 +59,7 @@ module _ {V : Type 0} (k : Known V) where
   abbrev InUse : List ℕ → Type 0
   InUse cs = All (λ c. c < k .used) cs
 
+  -- the call was refused, or its cells are in use
   used-cells : (cs : List ℕ) (a : Answer) (rest : Type 0) → UsedOr k cs a rest → NotTaken a ⊎ (InUse cs × rest)
   used-cells cs a rest u = go (first-unused (k .used) cs) refl u
     where
@@ -67,6 +70,7 @@ module _ {V : Type 0} (k : Known V) where
       go None e r = inr (all-used (k .used) cs e, r)
       go (Some c) e r = inl (not-in-use c, r, lit≤ tt)
 
+  -- the call was refused, or its goals are atoms
   atoms : (goals : List ℕ) (a : Answer) (rest : Type 0) → AtomsOr k goals a rest → NotTaken a ⊎ rest
   atoms goals a rest (o, f, u) = go o u
     where
@@ -112,6 +116,7 @@ module _ {V : Type 0} (book : List (Entry V)) (supplied : ℕ) (k : Known V) whe
       NotTaken a ⊎ If (Entails (k .equations) x y) (a ≡ same) (a ≡ different)
   of-compare x y w a d = then (used-cells k (x ∷ y ∷ []) a _ d) (λ z. unless a too-short (lit≤ tt) (z .1))
 
+  -- the search that a solve makes comes to the outcome
   abbrev SolveOf : List ℕ → ℕ → ℕ → Outcome → Type 0
   SolveOf goals b s o = Solve book (k .equations) (limits supplied k b s) goals o
 
@@ -124,6 +129,7 @@ module _ {V : Type 0} (book : List (Entry V)) (supplied : ℕ) (k : Known V) whe
       then (atoms k goals a _ (z .1)) (λ q.
       then (unless a too-short (lit≤ tt) q) (λ y. inr (z .0, y)))))
 
+  -- it granted
   pub of-granted : (goals : List ℕ) (b s w f n : ℕ) (steps : List Step) →
       Defined book supplied k (solve goals b s w f) (grants n steps) →
       InUse k goals × SolveOf goals b s (granted n steps)
@@ -143,6 +149,7 @@ module _ {V : Type 0} (book : List (Entry V)) (supplied : ℕ) (k : Known V) whe
           InUse k goals × SolveOf goals b s (granted n steps)
       fin (u, (o, t, e)) = (u, subst (SolveOf goals b s) (same-outcome o e) t)
 
+  -- it failed
   pub of-failed : (goals : List ℕ) (b s w f n : ℕ) →
       Defined book supplied k (solve goals b s w f) (fails n) → SolveOf goals b s (failed n)
   of-failed goals b s w f n d = fin (taken no (of-solve goals b s w f (fails n) d))

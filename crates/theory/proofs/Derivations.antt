@@ -15,6 +15,7 @@ use Rattle.theory.proofs.Elements.{all-left, all-right, all-or}
 
 -- a list for each number below n, joined
 module _ {A : Type 0} where
+  -- all of them in one list
   abbrev gather : (n : ℕ) → ((i : ℕ) → i < n → List A) → List A
   gather zero f = []
   gather (suc n) f = f 0 (suc-le-suc zero-le) ++ gather n (λ i h. f (suc i) (suc-le-suc h))
@@ -67,6 +68,7 @@ module _ {V : Type 0} (book : List (Entry V)) where
   expanded (expands {t = t} k e f c ι inst s kids) = t ∷ gather (length (e .body)) (λ i h. expanded (kids i h))
   expanded (loops n h s p) = []
 
+  -- each of them has a finite proof
   all-finite : {above : List (Tree V)} {t : Tree V} (d : Derivation above t) → All (FiniteProof book) (expanded d)
   all-finite (expands k e f c ι inst s kids) = (
     finite (expands k e f c ι inst s kids),

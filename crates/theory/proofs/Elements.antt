@@ -8,6 +8,7 @@ use Rattle.std.specs.Finite.{nth, All}
 use Rattle.std.specs.declared.option.Option.{Option}
 use Rattle.std.specs.declared.option.Option.the-variants.{Some, None}
 
+-- there is something
 abbrev IsSome : {A : Type 0} → Option A → Type 0
 IsSome None = ⊥
 IsSome (Some a) = Unit {0}
@@ -16,6 +17,7 @@ IsSome (Some a) = Unit {0}
 pub none-some : {A : Type 0} {a : A} → Path (Option A) None (Some a) → ⊥
 none-some q = subst IsSome (sym q) tt
 
+-- what there is, or a default
 abbrev some-or : {A : Type 0} → A → Option A → A
 some-or d None = d
 some-or d (Some a) = a

@@ -15,9 +15,11 @@ endless [] = Some (Label.node 3 1)
 endless (zero ∷ p) = endless p
 endless (suc i ∷ p) = None
 
+-- the one argument has place 0
 past-one : (i : ℕ) → suc i < 1 → ⊥
 past-one i h = omega arith
 
+-- it is a tree
 pub endless-is : IsTree endless
 endless-is = record { root = tt; down = down; up = up; range = range }
   where
@@ -39,10 +41,12 @@ endless-is = record { root = tt; down = down; up = up; range = range }
     range (suc j ∷ p) = tt
 
 module _ {V : Type 0} where
+  -- where a label is not present there is none
   bare : (o : Option (Label V)) → (Present o → ⊥) → o ≡ None
   bare None n = refl
   bare (Some l) n = absurd (n tt)
 
+  -- so at an argument place that the label lacks
   next-bare : (t : Tree V) → IsTree t → (q : List ℕ) (j : ℕ) → (Branches (t q) j → ⊥) → t (q ++ (j ∷ [])) ≡ None
   next-bare t is q j d = bare (t (q ++ (j ∷ []))) (λ h. d (is .up q j h))
 

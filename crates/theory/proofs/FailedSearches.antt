@@ -15,6 +15,7 @@ use Rattle.theory.proofs.Steps.{took, went-inj}
 use Rattle.theory.proofs.Tries.{In, tried}
 use Rattle.theory.proofs.Replays.{Finishes, grows, earlier}
 
+-- the search failed
 abbrev IsFailed : Outcome → Type 0
 IsFailed (granted n s) = ⊥
 IsFailed (failed n) = Unit {0}
@@ -39,9 +40,11 @@ module _ {V : Type 0} (book : List (Entry V)) (known more : List (Equation V ℕ
   pending (falls x xs r m u t) b i q = cons≢nil (sym (m .next) ∙ i q)
   pending (stands x xs r m u t) b i q = cons≢nil (sym (m .next) ∙ i q)
 
+  -- a point with no try left is dead
   none-left : {p : Point V} → Stuck p → Dead p
   none-left s x xs i f = subst (In x) (s .none) i
 
+  -- where nothing is pending there is no try
   no-tries : (r : Replay V) → r .pending ≡ [] → tries book (r .pending) ≡ []
   no-tries r q = ap (tries book) q
 

@@ -23,6 +23,7 @@ nth-right : (a b : List Step) (k : ℕ) → nth (a ++ b) (length a + k) ≡ nth 
 nth-right [] b k = ap (nth b) (zero-add k)
 nth-right (x ∷ a) b k = ap (nth (x ∷ (a ++ b))) (suc-add (length a) k) ∙ nth-right a b k
 
+-- what holds of each step holds of one in the list
 all-of : (P : Step → Type 0) (l : List Step) → All P l → (x : Step) → In x l → P x
 all-of P [] a x i = absurd i
 all-of P (y ∷ l) a x (inl e) = subst P (sym e) (a .0)
@@ -53,6 +54,7 @@ module _ {V : Type 0} (book : List (Entry V)) (known : List (Equation V ℕ)) (l
   Chain [] p = (p .at ≡ start goals) × (p .steps ≡ [])
   Chain (q ∷ qs) p = Link q p × Chain qs q
 
+  -- fewer tries left make no difference to it
   fewer-left : (below : List (Point V)) (p : Point V) (xs : List Step) → Chain below p → Chain below (without p xs)
   fewer-left [] p xs c = c
   fewer-left (q ∷ qs) p xs (k, c) = (
@@ -71,6 +73,7 @@ module _ {V : Type 0} (book : List (Entry V)) (known : List (Equation V ℕ)) (l
   no-step : (r : Replay V) (x : Step) (m : Replay V) → step book r x ≡ went m → r .pending ≢ []
   no-step r x m s e = subst (λ l. In x (tries book l)) e (tried book r x m (took book r x m s))
 
+  -- at its end a lawful record has no more steps
   ends-here : (r : Replay V) → r .pending ≡ [] → (xs : List Step) → Finishes book known r xs → NoLater book r [] xs
   ends-here r e [] f = tt
   ends-here r e (x ∷ xs) (t, (m, s, l), d, v) = absurd (no-step r x m s e)
@@ -78,6 +81,7 @@ module _ {V : Type 0} (book : List (Entry V)) (known : List (Equation V ℕ)) (l
   -- at a point below, the step taken there is the first that is not dead
   module _ (q p : Point V) (k : Link q p) (ys : List Step)
       (above : (xs : List Step) → Finishes book known (p .at) xs → NoLater book (p .at) ys xs) where
+    -- a try that is left stands later
     earlier : (z : Step) → In z (q .left) → Earlier (k .taken) z (tries book (q .at .pending))
     earlier z i =
         let w : Among z (q .left) = in-among z (q .left) i in
@@ -90,6 +94,7 @@ module _ {V : Type 0} (book : List (Entry V)) (known : List (Equation V ℕ)) (l
               ∙ (nth-right (k .before) (k .taken ∷ q .left) (suc (w .0)) ∙ w .1),
         )
 
+    -- so the granted steps come no later than others from here
     at-link : (zs : List Step) → Finishes book known (q .at) zs → NoLater book (q .at) (k .taken ∷ ys) zs
     at-link [] (t, l, d, v) = no-step (q .at) (k .taken) (p .at) (k .after) (ap (λ r. r .pending) l ∙ d)
     at-link (z ∷ zs) (t, (m, s, l), d, v) =
@@ -161,6 +166,7 @@ module _ {V : Type 0} (book : List (Entry V)) (known : List (Equation V ℕ)) (l
   Says (full n) = Unit {0}
   Says (short n) = Unit {0}
 
+  -- what is dead stays so, from point to point
   says : {p : Point V} {below : List (Point V)} {n : ℕ} {o : Outcome} → Searches book known lim p below n o →
       Top p → Chain below p → Says o
   says (done {p = p} {below = below} e) top c =

@@ -26,10 +26,12 @@ module _ {V : Type 0} (book : List (Entry V)) (known : List (Equation V ℕ)) (l
     room : length (p .steps) ≤ lim .room
     tried : length (p .steps) ≤ n
 
+  -- fewer tries left make no difference to it
   fewer : (n : ℕ) (p : Point V) (xs : List Step) → Reached n p → Reached n (without p xs)
   fewer n p xs r =
       record { leads = r .leads; solvable = r .solvable; cells = r .cells; room = r .room; tried = r .tried }
 
+  -- nor does one more try
   later : (n : ℕ) (p : Point V) → Reached n p → Reached (suc n) p
   later n p r = record {
     leads = r .leads;
@@ -47,9 +49,11 @@ module _ {V : Type 0} (book : List (Entry V)) (known : List (Equation V ℕ)) (l
   Says (full n) = Unit {0}
   Says (short n) = Unit {0}
 
+  -- a count that is not the budget is below it
   under : (n b : ℕ) → n ≤ b → n ≢ b → suc n ≤ b
   under n b h e = omega arith
 
+  -- every point of a search was reached so, and the last one is the record
   finds : {p : Point V} {below : List (Point V)} {n : ℕ} {o : Outcome} → Searches book known lim p below n o →
       n ≤ lim .budget → Reached n p → All (Reached n) below → Says o
   finds (done {p = p} e) b r a = record {

@@ -25,6 +25,7 @@ use Rattle.theory.proofs.Steps.{Took, clause-step, loop-step, entry-step, took
 use Rattle.theory.proofs.Replays.{Grown, grows}
 use Rattle.theory.proofs.Derivations.{Derivation, expands, loops, held}
 
+-- a step that was taken still is after one more
 one-more : (l : List Term) (t : Term) (n : ℕ) → n < length l → n < length (l ++ (t ∷ []))
 one-more l t n h = subst (λ k. n < k) (sym (length-push l t)) (omega arith)
 
@@ -37,12 +38,14 @@ module _ {V : Type 0} where
   abbrev PathsTaken : Replay V → Type 0
   PathsTaken r = All (PathTaken r) (r .pending)
 
+  -- so for a path
   still-taken : (r : Replay V) (t : Term) (path : List ℕ) →
       All (λ n. n < length (r .taken)) path → All (λ n. n < length (r .taken ++ (t ∷ []))) path
   still-taken r t path a =
       all-weaker (λ n. n < length (r .taken)) (λ n. n < length (r .taken ++ (t ∷ [])))
       (one-more (r .taken) t) path a
 
+  -- after a step that names an entry
   paths-expand : (r : Replay V) (g : Goal) (rest : List Goal) (e : Entry V) →
       All (PathTaken r) (g ∷ rest) → PathsTaken (expand r g rest e)
   paths-expand r g rest e o =
@@ -56,6 +59,7 @@ module _ {V : Type 0} where
       (e .body)))
       (all-weaker (PathTaken r) (PathTaken m) (λ h. still-taken r (g .term) (h .path)) rest (o .1))
 
+  -- and after one that closes a loop
   paths-close : (r : Replay V) (g : Goal) (rest : List Goal) (n : ℕ) →
       All (PathTaken r) (g ∷ rest) → PathsTaken (close r g rest n)
   paths-close r g rest n o = (
@@ -79,6 +83,7 @@ module _ {V : Type 0} (book : List (Entry V))
   Shown true path t = FiniteProof book t
   Shown false path t = Derivation book (above path) t
 
+  -- what is shown of a goal
   abbrev GoalShown : Goal → Type 0
   GoalShown g = Shown (g .inner) (g .path) (v (g .term))
 
@@ -86,6 +91,7 @@ module _ {V : Type 0} (book : List (Entry V))
   abbrev OnTheWay : Replay V → Type 0
   OnTheWay r = (ts : List Term) × (last .taken ≡ r .taken ++ ts)
 
+  -- the replay before a step is on the way, and the step took its goal
   step-before : (r : Replay V) (g : Term) (ts : List Term) → last .taken ≡ (r .taken ++ (g ∷ [])) ++ ts →
       OnTheWay r × (tree-at (length (r .taken)) ≡ v g)
   step-before r g ts q =
@@ -93,6 +99,7 @@ module _ {V : Type 0} (book : List (Entry V))
       let s : ℕ = length (r .taken) in
       ((g ∷ ts, w), ap v (ap (λ l. getD l s (cell 0)) w ∙ getD-at (r .taken) g ts (cell 0) s refl))
 
+  -- every replay of the record is on the way
   on-the-way : (r : Replay V) (xs : List Step) → Leads book r xs last → OnTheWay r
   on-the-way r [] l = ([], sym (ap (λ q. q .taken) l) ∙ sym (append-nil (r .taken)))
   on-the-way r (x ∷ xs) (m, s, l) = go x m (took book r x m s) (on-the-way m xs l)
@@ -113,6 +120,7 @@ module _ {V : Type 0} (book : List (Entry V))
   abbrev InstanceAt : ℕ → Entry V → Term → Type 0
   InstanceAt s e t = Instance e (λ j. v (part s j)) × Same (v t) (v (part s (e .head)))
 
+  -- the reading gives the instance its trees
   instance-at : (s : ℕ) (e : Entry V) (t : Term) →
       MeetsAll v (made s e ++ (equal t (part s (e .head)) ∷ [])) → InstanceAt s e t
   instance-at s e t m =
@@ -141,6 +149,7 @@ module _ {V : Type 0} (book : List (Entry V))
   OnPath r n path t = (j : ℕ) × (j < length (above path)) × (getD (above path) j t ≡ tree-at n) ×
       (n < length (r .taken))
 
+  -- every step on a path stands there
   on-path : (r : Replay V) (n : ℕ) (path : List ℕ) (t : Tree V) →
       All (λ k. k < length (r .taken)) path → member n path ≡ true → OnPath r n path t
   on-path r n [] t a f = absurd (false≢true f)

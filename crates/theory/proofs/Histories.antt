@@ -15,9 +15,11 @@ module _ {V : Type 0} where
   abbrev pub More : Known V → Known V → Type 0
   More k l = (es : List (Equation V ℕ)) × (l .equations ≡ k .equations ++ es)
 
+  -- none need be new
   no-more : (k : Known V) → More k k
   no-more k = ([], sym (append-nil (k .equations)))
 
+  -- a call only adds equations
   more-written : (k : Known V) (es : List (Equation V ℕ)) (a : Answer) → More k (written k es a)
   more-written k es (wrote c) = (es, refl)
   more-written k es accepted = no-more k
@@ -67,17 +69,20 @@ module _ {V : Type 0} (book : List (Entry V)) where
       more-from (after book k (e .call) (e .answer)) h in
       (a .0 ++ b .0, b .1 ∙ (ap (λ z. z ++ b .0) (a .1) ∙ append-assoc (k .equations) (a .0) (b .0)))
 
+  -- what is known after two parts of a sitting
   known-split : (k : Known V) (a b : List (Event V)) →
       known-from book k (a ++ b) ≡ known-from book (known-from book k a) b
   known-split k [] b = refl
   known-split k (e ∷ a) b = known-split (after book k (e .call) (e .answer)) a b
 
   module _ (supplied : ℕ) where
+    -- the first part of a right sitting is right
     right-left : (k : Known V) (a b : List (Event V)) →
         RightFrom book supplied k (a ++ b) → RightFrom book supplied k a
     right-left k [] b r = tt
     right-left k (e ∷ a) b r = (r .0, right-left (after book k (e .call) (e .answer)) a b (r .1))
 
+    -- and so is the second, from what is known after the first
     right-right : (k : Known V) (a b : List (Event V)) →
         RightFrom book supplied k (a ++ b) → RightFrom book supplied (known-from book k a) b
     right-right k [] b r = r

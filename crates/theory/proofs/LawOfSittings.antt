@@ -35,6 +35,7 @@ module _ {V : Type 0} (book : List (Entry V)) (rules : BookRules book) (supplied
   -- a granted solve, and a reading of what is known now
   module _ (before : List (Event V)) (goals : List ℕ) (b s w f n : ℕ) (steps : List Step)
       (at : At h before (solve goals b s w f) (grants n steps)) where
+    -- its record was lawful then
     was-lawful : Lawful book (known book before .equations) goals steps
     was-lawful =
         granted-lawful book rules supplied (known book before) goals b s w f n steps
@@ -42,6 +43,7 @@ module _ {V : Type 0} (book : List (Entry V)) (rules : BookRules book) (supplied
         (right-then book supplied h right before (solve goals b s w f) (grants n steps) at))
         (defined-then book supplied h right before (solve goals b s w f) (grants n steps) at) .1
 
+    -- the replay of its record
     abbrev last : Replay V
     last = was-lawful .last
 
@@ -49,6 +51,7 @@ module _ {V : Type 0} (book : List (Entry V)) (rules : BookRules book) (supplied
     abbrev put : Term → ℕ
     put = placed (known book before .used) (last .offsets)
 
+    -- what it added is still known
     more : More (recorded (known book before) last) (known book h)
     more =
         subst (λ r. More (recorded (known book before) r) (known book h))
@@ -65,11 +68,13 @@ module _ {V : Type 0} (book : List (Entry V)) (rules : BookRules book) (supplied
           meets-unrenamed put ρ (last .equations)
           (meets-right ρ (known book before .equations) (map (rename put) (last .equations)) all)
 
+      -- its goals are held
       granted : All (λ g. Held book (ρ g)) goals
       granted =
           goals-held book goals steps last (was-lawful .leads) (was-lawful .done) (λ t. ρ (put t))
           (record { trees = λ t. sol .trees (put t); meets = meets-record })
 
+      -- and the reading solves what is known now together with the record
       reads-all : Solves (together (known book h .equations) last) (λ t. ρ (put t))
       reads-all = record {
         trees = λ t. sol .trees (put t);
@@ -78,6 +83,7 @@ module _ {V : Type 0} (book : List (Entry V)) (rules : BookRules book) (supplied
             (meets-renamed cell (λ t. ρ (put t)) (known book h .equations) (sol .meets)) meets-record;
       }
 
+    -- so its record is lawful now
     lawful : Lawful book (known book h .equations) goals steps
     lawful = record {
       last = last;
@@ -88,6 +94,7 @@ module _ {V : Type 0} (book : List (Entry V)) (rules : BookRules book) (supplied
           (sound-right book rules supplied h right .solvable);
     }
 
+  -- a failed solve leaves no record
   hopeless : (before : List (Event V)) (goals : List ℕ) (b s w f n : ℕ) →
       At h before (solve goals b s w f) (fails n) →
       (steps : List Step) → Lawful book (known book h .equations) goals steps → ⊥
@@ -101,15 +108,19 @@ module _ {V : Type 0} (book : List (Entry V)) (rules : BookRules book) (supplied
       steps (subst (λ es. Lawful book es goals steps) (more .1) l)
 
   module _ (before : List (Event V)) (goals : List ℕ) (steps : List Step) (w f : ℕ) where
+    -- what was known at a check
     abbrev es : List (Equation V ℕ)
     es = known book before .equations
 
+    -- the cells that were free
     abbrev free : ℕ
     free = capacity supplied - known book before .used
 
+    -- the record is lawful and fits
     abbrev Fits : Type 0
     Fits = Fitting book es free goals steps
 
+    -- check passed exactly these
     passed-is : (a : Answer) → At h before (check goals steps w f) a → NotTaken a ⊎ ((a ≡ passes) ↔ Fits)
     passed-is a at =
         go (of-check book supplied (known book before) goals steps w f a
@@ -133,6 +144,7 @@ module _ {V : Type 0} (book : List (Entry V)) (rules : BookRules book) (supplied
         go (inr (v, c, e)) =
             inr ((λ q. is v c .passes .0 (verdict v e q)), (λ q. e ∙ ap answer-to (is v c .passes .1 q)))
 
+    -- and their goals are held
     checked : At h before (check goals steps w f) passes → (ρ : ℕ → Tree V) → Solves (known book h .equations) ρ →
         (v : Term → Tree V) → Solves (replay book goals steps .equations) v → ((c : ℕ) → Same (v (cell c)) (ρ c)) →
         All (λ g. Held book (ρ g)) goals
@@ -149,6 +161,7 @@ module _ {V : Type 0} (book : List (Entry V)) (rules : BookRules book) (supplied
         go (inl (r, e, n)) = never (cc)
         go (inr e) = held (e .0 refl)
 
+  -- all of it at one moment
   stands : Stands book supplied h
   stands = record {
     compared = λ before x y w a at.

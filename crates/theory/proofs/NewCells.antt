@@ -24,10 +24,12 @@ choose (inr q) a b = b
 
 -- the tree of a leaf
 module _ {V : Type 0} where
+  -- one label at the root
   abbrev leaf-tree : V → Tree V
   leaf-tree v [] = Some (Label.leaf v)
   leaf-tree v (i ∷ p) = None
 
+  -- it is a tree
   leaf-is : (v : V) → IsTree (leaf-tree v)
   leaf-is v = record { root = tt; down = down; up = up; range = range }
     where
@@ -51,10 +53,12 @@ module _ {V : Type 0} where
   pick (t ∷ ts) zero p = t p
   pick (t ∷ ts) (suc i) p = pick ts i p
 
+  -- the label at the root, and the trees below it
   abbrev pub node-tree : ℕ → List (Tree V) → Tree V
   node-tree f ts [] = Some (Label.node f (length ts))
   node-tree f ts (i ∷ p) = pick ts i p
 
+  -- the i-th tree is a tree, part by part
   pick-root : (ts : List (Tree V)) → All IsTree ts → (i : ℕ) → i < length ts → Present (pick ts i [])
   pick-root [] a i h = absurd (not-suc-le-zero h)
   pick-root (t ∷ ts) a zero h = a .0 .root
@@ -82,6 +86,7 @@ module _ {V : Type 0} where
   pick-range (t ∷ ts) a zero p = a .0 .range p
   pick-range (t ∷ ts) a (suc j) p = pick-range ts (a .1) j p
 
+  -- it is a tree
   pub node-is : (f : ℕ) (ts : List (Tree V)) → f < 65536 → All IsTree ts → IsTree (node-tree f ts)
   node-is f ts hf a = record { root = tt; down = down; up = up; range = range }
     where
@@ -99,9 +104,11 @@ module _ {V : Type 0} where
 
 -- a reading, with another tree from a cell on
 module _ {V : Type 0} (used : ℕ) (τ : Tree V) (ρ : ℕ → Tree V) where
+  -- the old tree below the cell, and the new one from it on
   abbrev extended : ℕ → Tree V
   extended c = choose (cases-lt c used) (ρ c) τ
 
+  -- below the cell nothing changes
   extended-low : (c : ℕ) → c < used → Same (extended c) (ρ c)
   extended-low c h = go (cases-lt c used)
     where
@@ -112,6 +119,7 @@ module _ {V : Type 0} (used : ℕ) (τ : Tree V) (ρ : ℕ → Tree V) where
       go (inl p) k = refl
       go (inr q) k = absurd (bad q)
 
+  -- at the cell there is the new tree
   extended-here : Same (extended used) τ
   extended-here = go (cases-lt used used)
     where
@@ -122,6 +130,7 @@ module _ {V : Type 0} (used : ℕ) (τ : Tree V) (ρ : ℕ → Tree V) where
       go (inl p) k = absurd (bad p)
       go (inr q) k = refl
 
+  -- every cell still has a tree
   extended-is : IsTree τ → ((c : ℕ) → IsTree (ρ c)) → (c : ℕ) → IsTree (extended c)
   extended-is a h c = go (cases-lt c used)
     where
@@ -129,6 +138,7 @@ module _ {V : Type 0} (used : ℕ) (τ : Tree V) (ρ : ℕ → Tree V) where
       go (inl p) = h c
       go (inr q) = a
 
+-- a name for itself changes nothing
 rename-same : {V : Type 0} (es : List (Equation V ℕ)) → map (rename (λ c. c)) es ≡ es
 rename-same [] = refl
 rename-same (is-leaf x v ∷ es) = ap (λ l. is-leaf x v ∷ l) (rename-same es)
@@ -160,6 +170,7 @@ module _ {V : Type 0} (used : ℕ) (es : List (Equation V ℕ)) (low : All (Name
             },
           )
 
+  -- the arguments of the new node have the old trees
   children : (τ t : Tree V) (ρ : ℕ → Tree V) (i : ℕ) (xs : List ℕ) → All (λ c. c < used) xs →
       ((j : ℕ) (p : Place) → t ((i + j) ∷ p) ≡ pick (map ρ xs) j p) → Children (extended used τ ρ) t i xs
   children τ t ρ i [] a h = tt

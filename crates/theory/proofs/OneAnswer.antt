@@ -18,18 +18,21 @@ use Rattle.theory.proofs.OneOutcome.{one-outcome}
 
 -- both sides take the same way, and each way has one answer
 module _ {X : Type 0} {P A B : Type 0} {a b x : X} where
+  -- where the statement holds there is one answer
   one-first : If P (a ≡ x) A → If P (b ≡ x) B → (A → B → a ≡ b) → a ≡ b
   one-first (inl (p, e)) (inl (q, f)) k = e ∙ sym f
   one-first (inl (p, e)) (inr (q, f)) k = absurd (q p)
   one-first (inr (p, e)) (inl (q, f)) k = absurd (p q)
   one-first (inr (p, e)) (inr (q, f)) k = k e f
 
+  -- where it does not hold there is one answer
   one-second : If P A (a ≡ x) → If P B (b ≡ x) → (A → B → a ≡ b) → a ≡ b
   one-second (inl (p, e)) (inl (q, f)) k = k e f
   one-second (inl (p, e)) (inr (q, f)) k = absurd (q p)
   one-second (inr (p, e)) (inl (q, f)) k = absurd (p q)
   one-second (inr (p, e)) (inr (q, f)) k = e ∙ sym f
 
+-- there is at most one first goal that is no atom
 one-non-atom : {V : Type 0} (es : List (Equation V ℕ)) (gs : List ℕ) (o o′ : Option ℕ) →
     FirstNonAtom es gs o → FirstNonAtom es gs o′ → o ≡ o′
 one-non-atom es [] o o′ e f = e ∙ sym f
@@ -62,6 +65,7 @@ module _ {V : Type 0} (book : List (Entry V)) (known : List (Equation V ℕ)) (f
       go (went m) e f rec = one-first e f (λ p q. one-second p q (rec m))
 
 module _ {V : Type 0} (k : Known V) where
+  -- the same cell is refused, or none
   one-used : (cs : List ℕ) (a b : Answer) (A B : Type 0) → UsedOr k cs a A → UsedOr k cs b B →
       (A → B → a ≡ b) → a ≡ b
   one-used cs a b A B p q r = go (first-unused (k .used) cs) p q
@@ -73,6 +77,7 @@ module _ {V : Type 0} (k : Known V) where
       go None e f = r e f
       go (Some c) e f = e ∙ sym f
 
+  -- the same goal is refused, or none
   one-atoms : (goals : List ℕ) (a b : Answer) (A B : Type 0) → AtomsOr k goals a A → AtomsOr k goals b B →
       (A → B → a ≡ b) → a ≡ b
   one-atoms goals a b A B (o, f, p) (o′, f′, q) r =
@@ -85,6 +90,7 @@ module _ {V : Type 0} (k : Known V) where
       go None e f = r e f
       go (Some c) e f = e ∙ sym f
 
+  -- a write has one answer
   one-cell : (supplied : ℕ) (a b : Answer) → NextCell supplied k a → NextCell supplied k b → a ≡ b
   one-cell supplied a b p q = one-first p q (λ e f. e ∙ sym f)
 

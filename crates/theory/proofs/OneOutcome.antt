@@ -22,9 +22,11 @@ over a b = absurd (bad a b)
     bad : {m n : ℕ} → m ≤ n → n < m → ⊥
     bad a b = omega arith
 
+-- a list has one first element
 same-x : {l : List Step} {x y : Step} {xs ys : List Step} → l ≡ x ∷ xs → l ≡ y ∷ ys → x ≡ y
 same-x e f = head-eq-of-cons-eq (sym e ∙ f)
 
+-- and one rest
 same-xs : {l : List Step} {x y : Step} {xs ys : List Step} → l ≡ x ∷ xs → l ≡ y ∷ ys → xs ≡ ys
 same-xs e f = tail-eq-of-cons-eq (sym e ∙ f)
 
@@ -33,26 +35,32 @@ module _ {V : Type 0} (book : List (Entry V)) (known : List (Equation V ℕ)) (l
   abbrev Ok : Point V → Type 0
   Ok p = p .at .pending ≡ [] → p .left ≡ []
 
+  -- fewer tries left make no difference to it
   ok-without : (p : Point V) (x : Step) (xs : List Step) → p .left ≡ x ∷ xs → Ok p → Ok (without p xs)
   ok-without p x xs l o e = two (o e) l
 
+  -- a new point is so
   ok-new : (r : Replay V) (s : List Step) → Ok (record { at = r; steps = s; left = tries book (r .pending) })
   ok-new r s e = ap (tries book) e
 
+  -- the same step leads to the same replay
   same-r : (r : Replay V) {x y : Step} {a b : Replay V} → x ≡ y → step book r x ≡ went a →
       step book r y ≡ went b → a ≡ b
   same-r r e f g = went-inj (sym f ∙ (ap (step book r) e ∙ g))
 
   -- two tries that are next at a point are the same, and lead to the same replay
   module _ {p : Point V} {n : ℕ} {x y : Step} {xs ys : List Step} {a b : Replay V} where
+    -- the replay after it is the same
     same-may : May book known lim p n x xs a → May book known lim p n y ys b → a ≡ b
     same-may f g = same-r (p .at) (same-x (f .next) (g .next)) (f .after) (g .after)
 
+    -- it does not both fit and not fit
     fit : p .left ≡ x ∷ xs → step book (p .at) x ≡ went a → lim .free < a .cells →
         May book known lim p n y ys b → ⊥
     fit l s c m =
         over (m .cells) (subst (λ q. lim .free < q .cells) (same-r (p .at) (same-x l (m .next)) s (m .after)) c)
 
+    -- where it stands the search is the same
     same-stand : (below : List (Point V)) {o : Outcome} → May book known lim p n x xs a →
         May book known lim p n y ys b →
         Searches book known lim (onward book p x a) (without p xs ∷ below) (suc n) o →
@@ -61,6 +69,7 @@ module _ {V : Type 0} (book : List (Entry V)) (known : List (Equation V ℕ)) (l
         subst₃ (λ x xs a. Searches book known lim (onward book p x a) (without p xs ∷ below) (suc n) o)
         (same-x (f .next) (g .next)) (same-xs (f .next) (g .next)) (same-may f g) t
 
+    -- and where it falls
     same-fall : (below : List (Point V)) {o : Outcome} → May book known lim p n x xs a →
         May book known lim p n y ys b →
         Searches book known lim (without p xs) below (suc n) o →

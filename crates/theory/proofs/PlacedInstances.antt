@@ -26,10 +26,12 @@ use Rattle.theory.proofs.NewCells.{choose}
 
 -- what holds of the cells of an instance holds of the terms that it names
 module _ (s : ℕ) (P : Term → Type 0) (n : ℕ) (all : (j : ℕ) → j < n → P (part s j)) where
+  -- of the arguments of a node
   args-so : (k : ℕ) → k ≤ n → (args : List ℕ) → All (λ a. a < k) args → All P (map (part s) args)
   args-so k h [] a = tt
   args-so k h (x ∷ args) a = (all x (let b : x < k = a .0 in omega arith), args-so k h args (a .1))
 
+  -- of all its leaves and nodes
   parts-so : {V : Type 0} (ps : List (Part V)) (j : ℕ) → j + length ps ≤ n → PartsRules j ps →
       All (Names P) (map (rename (part s)) (instance-of ps j))
   parts-so [] j h r = tt
@@ -70,6 +72,7 @@ module _ {V : Type 0} (used : ℕ) (v : Term → Tree V) (trees : (t : Term) →
   abbrev next : Replay V → (ℕ → Tree V) → ℕ → Tree V
   next r ρ c = choose (cases-lt c (used + r .cells)) (ρ c) (v (part (length (r .taken)) (c - (used + r .cells))))
 
+  -- below the next free cell nothing changes
   next-low : (r : Replay V) (ρ : ℕ → Tree V) (c : ℕ) → c < used + r .cells → next r ρ c ≡ ρ c
   next-low r ρ c h = go (cases-lt c (used + r .cells))
     where
@@ -81,6 +84,7 @@ module _ {V : Type 0} (used : ℕ) (v : Term → Tree V) (trees : (t : Term) →
       go (inl p) = refl
       go (inr q) = absurd (bad q)
 
+  -- from there on are the trees of the new instance
   next-high : (r : Replay V) (ρ : ℕ → Tree V) (j : ℕ) →
       next r ρ (used + (r .cells + j)) ≡ v (part (length (r .taken)) j)
   next-high r ρ j = go (cases-lt (used + (r .cells + j)) (used + r .cells))
@@ -98,6 +102,7 @@ module _ {V : Type 0} (used : ℕ) (v : Term → Tree V) (trees : (t : Term) →
       go (inl p) = absurd (bad p)
       go (inr q) = ap (λ k. v (part (length (r .taken)) k)) minus
 
+  -- every cell has a tree
   next-is : (r : Replay V) (ρ : ℕ → Tree V) → ((c : ℕ) → IsTree (ρ c)) → (c : ℕ) → IsTree (next r ρ c)
   next-is r ρ h c = go (cases-lt c (used + r .cells))
     where
@@ -112,12 +117,14 @@ module _ {V : Type 0} (used : ℕ) (v : Term → Tree V) (trees : (t : Term) →
   stays r (cell c) h = refl
   stays r (part s j) h = ap (λ o. used + (o + j)) (getD-append-left (r .offsets) (r .cells ∷ []) 0 s h)
 
+  -- a step that was taken still is
   still-taken : (r m : Replay V) → m .offsets ≡ r .offsets ++ (r .cells ∷ []) → (t : Term) → Taken r t → Taken m t
   still-taken r m o (cell c) h = tt
   still-taken r m o (part s j) h =
       subst (λ l. s < length l) (sym o) (subst (λ k. s < k) (sym (length-push (r .offsets) (r .cells)))
       (omega arith))
 
+  -- and ρ still gives them their trees
   keeps : (r m : Replay V) (ρ : ℕ → Tree V) → m .offsets ≡ r .offsets ++ (r .cells ∷ []) → r .cells ≤ m .cells →
       (t : Term) → Lies r ρ t → Lies m (next r ρ) t
   keeps r m ρ o c t (ok, low, same) =
@@ -147,20 +154,25 @@ module _ {V : Type 0} (used : ℕ) (v : Term → Tree V) (trees : (t : Term) →
       (l : Laid r ρ)
       (offsets : m .offsets ≡ r .offsets ++ (r .cells ∷ [])) (taken : m .taken ≡ r .taken ++ (g .term ∷ []))
       (more : r .cells ≤ m .cells) where
+    -- the terms so far lie where they lay
     keep : (t : Term) → Lies r ρ t → Lies m (next r ρ) t
     keep = keeps r m ρ offsets more
 
+    -- so does the goal that is taken
     goal-lies : Lies m (next r ρ) (g .term)
     goal-lies = keep (g .term) (subst (All (λ h. Lies r ρ (h .term))) p (l .pending) .0)
 
+    -- and the others
     rest-lies : All (λ h. Lies m (next r ρ) (h .term)) rest
     rest-lies =
         all-weaker (λ h. Lies r ρ (h .term)) (λ h. Lies m (next r ρ) (h .term)) (λ h. keep (h .term)) rest
         (subst (All (λ h. Lies r ρ (h .term))) p (l .pending) .1)
 
+    -- and the terms of the equations so far
     old-equations : All (Names (Lies m (next r ρ))) (r .equations)
     old-equations = all-names-weaker (Lies r ρ) (Lies m (next r ρ)) keep (r .equations) (l .equations)
 
+    -- so only what is new is left to show
     laid-by : All (λ h. Lies m (next r ρ) (h .term)) (m .pending) → (es : List (Equation V Term)) →
         m .equations ≡ r .equations ++ es → All (Names (Lies m (next r ρ))) es → Laid m (next r ρ)
     laid-by pending es q new = record {
@@ -180,6 +192,7 @@ module _ {V : Type 0} (used : ℕ) (v : Term → Tree V) (trees : (t : Term) →
           (all-append (Names (Lies m (next r ρ))) (r .equations) es old-equations new);
     }
 
+  -- a step that names an entry
   laid-expand : (r : Replay V) (ρ : ℕ → Tree V) (g : Goal) (rest : List Goal) (e : Entry V) →
       r .pending ≡ g ∷ rest → EntryRules e → Laid r ρ → Laid (expand r g rest e) (next r ρ)
   laid-expand r ρ g rest e p rules l =
@@ -200,6 +213,7 @@ module _ {V : Type 0} (used : ℕ) (v : Term → Tree V) (trees : (t : Term) →
       (parts-so s Fine (length (e .parts)) new (e .parts) 0 (omega arith) (rules .parts))
       (goal-lies r m ρ g rest p l refl refl more, new (e .head) (is-part (e .parts) (e .head) (rules .head))))
 
+  -- a step that closes a loop
   laid-close : (r : Replay V) (ρ : ℕ → Tree V) (g : Goal) (rest : List Goal) (n : ℕ) →
       r .pending ≡ g ∷ rest → Laid r ρ → Laid (close r g rest n) (next r ρ)
   laid-close r ρ g rest n p l =
@@ -215,6 +229,7 @@ module _ {V : Type 0} (used : ℕ) (v : Term → Tree V) (trees : (t : Term) →
       (equal (g .term) (getD (r .taken) n (g .term)) ∷ []) refl ((goal, other), tt)
 
   module _ (book : List (Entry V)) (rules : BookRules book) where
+    -- any step
     laid-step : (r : Replay V) (ρ : ℕ → Tree V) (x : Step) (m : Replay V) → Took book r x m → Laid r ρ →
         Laid m (next r ρ)
     laid-step r ρ x m (clause-step g rest n e p i f c) l =
@@ -223,11 +238,13 @@ module _ {V : Type 0} (used : ℕ) (v : Term → Tree V) (trees : (t : Term) →
     laid-step r ρ x m (entry-step g rest n e p i f) l =
         laid-expand r ρ g rest e p (all-nth EntryRules book n e (rules .entries) f) l
 
+    -- any steps
     laid : (r : Replay V) (ρ : ℕ → Tree V) (xs : List Step) (t : Replay V) → Leads book r xs t → Laid r ρ →
         (σ : ℕ → Tree V) × Laid t σ
     laid r ρ [] t l a = (ρ, subst (λ q. Laid q ρ) l a)
     laid r ρ (x ∷ xs) t (m, s, l) a = laid m (next r ρ) xs t l (laid-step r ρ x m (took book r x m s) a)
 
+    -- and the start
     laid-start : (goals : List ℕ) → All (λ g. g < used) goals → Laid (start goals) (λ c. v (cell c))
     laid-start goals a =
         let Fine : Term → Type 0 = Lies (start goals) (λ c. v (cell c)) in
@@ -245,6 +262,7 @@ module _ {V : Type 0} (used : ℕ) (v : Term → Tree V) (trees : (t : Term) →
     -- the record leads from goals that are in use
     module _ (goals : List ℕ) (in-use : All (λ g. g < used) goals) (xs : List Step) (t : Replay V)
         (leads : Leads book (start goals) xs t) where
+      -- the reading of the cells at its end
       abbrev at-last : (σ : ℕ → Tree V) × Laid t σ
       at-last = laid (start goals) (λ c. v (cell c)) xs t leads (laid-start goals in-use)
 

@@ -40,6 +40,7 @@ module _ {V X : Type 0} where
       (es : List (Equation V X)) → All (Names P) es → All (Names Q) es
   all-names-weaker P Q h es a = all-weaker (Names P) (Names Q) (names-weaker P Q h) es a
 
+  -- what holds of all terms holds of those named
   names-any : (P : X → Type 0) → ((x : X) → P x) → (e : Equation V X) → Names P e
   names-any P h (is-leaf x v) = h x
   names-any P h (is-node x f xs) = (h x, all-any P h xs)
@@ -61,6 +62,7 @@ module _ {V X Y : Type 0} (f : X → Y) (ρ : Y → Tree V) (τ : X → Tree V) 
   abbrev pub Agrees : X → Type 0
   Agrees x = Same (ρ (f x)) (τ x)
 
+  -- the arguments
   there-children :
       (t u : Tree V) → Same t u → (i : ℕ) (xs : List X) → All Agrees xs →
       Children τ u i xs → Children ρ t i (map f xs)
@@ -68,6 +70,7 @@ module _ {V X Y : Type 0} (f : X → Y) (ρ : Y → Tree V) (τ : X → Tree V) 
   there-children t u s i (x ∷ xs) a c =
       (λ p. s (i ∷ p) ∙ (c .0 p ∙ sym (a .0 p)), there-children t u s (suc i) xs (a .1) (c .1))
 
+  -- one equation
   there : (e : Equation V X) → Names Agrees e → Meets τ e → Meets ρ (rename f e)
   there (is-leaf x v) a m = a [] ∙ m
   there (is-node x g xs) a m = (
@@ -82,6 +85,7 @@ module _ {V X Y : Type 0} (f : X → Y) (ρ : Y → Tree V) (τ : X → Tree V) 
   there-all [] a m = tt
   there-all (e ∷ es) a m = (there e (a .0) (m .0), there-all es (a .1) (m .1))
 
+  -- the arguments, the other way
   back-children :
       (t u : Tree V) → Same t u → (i : ℕ) (xs : List X) → All Agrees xs →
       Children ρ t i (map f xs) → Children τ u i xs
@@ -89,6 +93,7 @@ module _ {V X Y : Type 0} (f : X → Y) (ρ : Y → Tree V) (τ : X → Tree V) 
   back-children t u s i (x ∷ xs) a c =
       (λ p. sym (s (i ∷ p)) ∙ (c .0 p ∙ a .0 p), back-children t u s (suc i) xs (a .1) (c .1))
 
+  -- one equation, the other way
   back : (e : Equation V X) → Names Agrees e → Meets ρ (rename f e) → Meets τ e
   back (is-leaf x v) a m = sym (a []) ∙ m
   back (is-node x g xs) a m = (
@@ -105,11 +110,14 @@ module _ {V X Y : Type 0} (f : X → Y) (ρ : Y → Tree V) (τ : X → Tree V) 
 
 -- a reading of the new terms is one of the old
 module _ {V X Y : Type 0} (f : X → Y) (ρ : Y → Tree V) (es : List (Equation V X)) where
+  -- the two agree on all terms
   agrees : All (Names (Agrees f ρ (λ x. ρ (f x)))) es
   agrees = all-any (Names (Agrees f ρ (λ x. ρ (f x)))) (names-any (Agrees f ρ (λ x. ρ (f x))) (λ x p. refl)) es
 
+  -- what meets the equations meets them renamed
   pub meets-renamed : MeetsAll (λ x. ρ (f x)) es → MeetsAll ρ (map (rename f) es)
   meets-renamed m = there-all f ρ (λ x. ρ (f x)) es agrees m
 
+  -- and the other way round
   pub meets-unrenamed : MeetsAll ρ (map (rename f) es) → MeetsAll (λ x. ρ (f x)) es
   meets-unrenamed m = back-all f ρ (λ x. ρ (f x)) es agrees m

@@ -17,6 +17,7 @@ abbrev pub Grown : {V : Type 0} → Replay V → Replay V → Type 0
 Grown {V} r m = (es : List (Equation V Term)) × (m .equations ≡ r .equations ++ es)
 
 module _ {V : Type 0} (book : List (Entry V)) where
+  -- so for one step
   step-grows : (r : Replay V) (x : Step) (m : Replay V) → Took book r x m → Grown r m
   step-grows r x m (clause-step g rest n e p i f c) = (_, refl)
   step-grows r x m (loop-step g rest n p i f) = (_, refl)
@@ -30,6 +31,7 @@ module _ {V : Type 0} (book : List (Entry V)) where
       let b : Grown m t = grows m xs t l in
       (a .0 ++ b .0, b .1 ∙ (ap (λ q. q ++ b .0) (a .1) ∙ append-assoc (r .equations) (a .0) (b .0)))
 
+  -- a step only adds cells
   step-cells : (r : Replay V) (x : Step) (m : Replay V) → Took book r x m → r .cells ≤ m .cells
   step-cells r x m (clause-step g rest n e p i f c) = omega arith
   step-cells r x m (loop-step g rest n p i f) = omega arith

@@ -18,10 +18,12 @@ use Rattle.theory.specs.Check.{If, Verdict, passed, unlawful, no-cells, AtEnd,
 use Rattle.theory.specs.Answers.{Decided}
 use Rattle.theory.proofs.Tries.{In, Allowed, allowed}
 
+-- what holds of every step in a list holds of each
 all-in : (P : Step → Type 0) (l : List Step) → ((x : Step) → In x l → P x) → All P l
 all-in P [] h = tt
 all-in P (y ∷ l) h = (h y (inl refl), all-in P l (λ x i. h x (inr i)))
 
+-- what is at least is not below
 not-below : (a b : ℕ) → b ≤ a → a < b → ⊥
 not-below a b h q = omega arith
 
@@ -36,6 +38,7 @@ module _ {V : Type 0} (decide : (es : List (Equation V Term)) → Decided (Solva
     abbrev Ends : Point V → List (Point V) → ℕ → Type 0
     Ends p below n = (o : Outcome) × Searches book known lim p below n o
 
+    -- the tries of a new point are so
     ready : (r : Replay V) → All (Allowed book r) (tries book (r .pending))
     ready r = all-in (Allowed book r) (tries book (r .pending)) (allowed book r)
 
@@ -43,6 +46,7 @@ module _ {V : Type 0} (decide : (es : List (Equation V Term)) → Decided (Solva
     module _ (n : ℕ) (p : Point V) (below : List (Point V))
         (try : (x : Step) (xs : List Step) → p .left ≡ x ∷ xs → Ends p below n)
         (next : (q : Point V) (qs : List (Point V)) → below ≡ q ∷ qs → Ends q qs n) where
+      -- nothing is pending, or a try is left, or a step is taken back
       at-point : Ends p below n
       at-point = goals (p .at .pending) refl
         where

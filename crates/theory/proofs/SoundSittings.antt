@@ -25,18 +25,22 @@ use Rattle.theory.proofs.DefinedAnswers.{of-node, of-equate, of-granted}
 
 -- a tree that has no leaf
 module _ (V : Type 0) where
+  -- a node with no argument
   some-tree : Tree V
   some-tree = node-tree 0 []
 
+  -- it is a tree
   some-tree-is : IsTree some-tree
   unfolding some-tree
   some-tree-is = node-is 0 [] (lit< tt) tt
 
 module _ {V : Type 0} where
+  -- cells below a number are below a greater one
   wider : (n m : ℕ) → n ≤ m → (es : List (Equation V ℕ)) → All (Names (λ c. c < n)) es →
       All (Names (λ c. c < m)) es
   wider n m h es a = all-names-weaker (λ c. c < n) (λ c. c < m) (λ c l. omega arith) es a
 
+  -- the equations so far name cells in use after one more cell
   one-more : (k : Known V) → Sound k → All (Names (λ c. c < suc (k .used))) (k .equations)
   one-more k g = wider (k .used) (suc (k .used)) (omega arith) (k .equations) (g .in-use)
 
@@ -53,6 +57,7 @@ module _ {V : Type 0} where
       subst (λ l. Sound (record { used = suc (k .used); equations = l })) (sym (append-nil (k .equations)))
       (record { in-use = one-more k g; solvable = g .solvable })
 
+  -- as a leaf
   sound-leaf : (k : Known V) (v : V) → Sound k →
       Sound (record { used = suc (k .used); equations = k .equations ++ (is-leaf (k .used) v ∷ []) })
   sound-leaf k v g = record {
@@ -62,6 +67,7 @@ module _ {V : Type 0} where
     solvable = with-leaf (k .used) (k .equations) (g .in-use) v (g .solvable);
   }
 
+  -- as a node over cells in use
   sound-node : (k : Known V) (f : ℕ) (args : List ℕ) → f < 65536 → All (λ c. c < k .used) args → Sound k →
       Sound (record { used = suc (k .used); equations = k .equations ++ (is-node (k .used) f args ∷ []) })
   sound-node k f args hf a g = record {
@@ -71,6 +77,7 @@ module _ {V : Type 0} where
     solvable = with-node (k .used) (k .equations) (g .in-use) f args hf a (g .solvable);
   }
 
+  -- whatever the answer to a write
   sound-written : (k : Known V) (es : List (Equation V ℕ)) (a : Answer) → Sound k →
       ((c : ℕ) → a ≡ wrote c → Sound (record { used = suc (k .used); equations = k .equations ++ es })) →
       Sound (written k es a)
@@ -170,6 +177,7 @@ module _ {V : Type 0} (book : List (Entry V)) (rules : BookRules book) where
     sound-after k (solve goals b s w f) a g d = sound-solved k goals b s w f a g d
     sound-after k (check goals steps w f) a g d = g
 
+    -- after any right events
     sound-from : (k : Known V) (h : List (Event V)) → RightFrom book supplied k h → Sound k →
         Sound (known-from book k h)
     sound-from k [] r g = g

@@ -30,6 +30,7 @@ pub data Took {V : Type 0} (book : List (Entry V)) (r : Replay V) : Step → Rep
       Took book r (step-of 3 n) (expand r g rest e)
 
 module _ {V : Type 0} where
+  -- the step goes on
   abbrev IsWent : Replayed V → Type 0
   IsWent (broken n) = ⊥
   IsWent (went r) = Unit {0}
@@ -38,6 +39,7 @@ module _ {V : Type 0} where
   pub not-broken : {n : ℕ} {m : Replay V} → Path (Replayed V) (broken n) (went m) → ⊥
   not-broken e = subst IsWent (sym e) tt
 
+  -- the replay after the step, or a default
   abbrev the : Replay V → Replayed V → Replay V
   the d (broken n) = d
   the d (went r) = r
@@ -52,30 +54,35 @@ module _ {V : Type 0} (book : List (Entry V)) where
     abbrev by-kind : Entry V → Kind → Replayed V
     by-kind e k = elim k [ clause ↦ went (expand r g rest e) | cofact ↦ broken 3 ]
 
+    -- mode 1, once an entry is found
     clause-case : (n : ℕ) (e : Entry V) (k : Kind) → nth book n ≡ Some e → e .kind ≡ k → g .inner ≡ false →
         (m : Replay V) → by-kind e k ≡ went m → Took book r (step-of 1 n) m
     clause-case n e clause f c i m q =
         subst (Took book r (step-of 1 n)) (went-inj q) (clause-step g rest n e p i f c)
     clause-case n e cofact f c i m q = absurd (not-broken q)
 
+    -- mode 1
     mode-1 : (n : ℕ) (b : Bool) (o : Option (Entry V)) → g .inner ≡ b → nth book n ≡ o →
         (m : Replay V) → by-clause r g rest b o ≡ went m → Took book r (step-of 1 n) m
     mode-1 n true o i f m q = absurd (not-broken q)
     mode-1 n false None i f m q = absurd (not-broken q)
     mode-1 n false (Some e) i f m q = clause-case n e (e .kind) f refl i m q
 
+    -- mode 2
     mode-2 : (n : ℕ) (b : Bool) (o : Bool) → g .inner ≡ b → member n (g .path) ≡ o →
         (m : Replay V) → by-path r g rest b n o ≡ went m → Took book r (step-of 2 n) m
     mode-2 n true o i f m q = absurd (not-broken q)
     mode-2 n false false i f m q = absurd (not-broken q)
     mode-2 n false true i f m q = subst (Took book r (step-of 2 n)) (went-inj q) (loop-step g rest n p i f)
 
+    -- mode 3
     mode-3 : (n : ℕ) (b : Bool) (o : Option (Entry V)) → g .inner ≡ b → nth book n ≡ o →
         (m : Replay V) → by-entry r g rest b o ≡ went m → Took book r (step-of 3 n) m
     mode-3 n false o i f m q = absurd (not-broken q)
     mode-3 n true None i f m q = absurd (not-broken q)
     mode-3 n true (Some e) i f m q = subst (Took book r (step-of 3 n)) (went-inj q) (entry-step g rest n e p i f)
 
+    -- any mode
     modes : (k n : ℕ) (m : Replay V) → by-mode book r g rest k n ≡ went m → Took book r (step-of k n) m
     modes zero n m q = absurd (not-broken q)
     modes (suc zero) n m q = mode-1 n (g .inner) (nth book n) refl refl m q
@@ -83,6 +90,7 @@ module _ {V : Type 0} (book : List (Entry V)) where
     modes (suc (suc (suc zero))) n m q = mode-3 n (g .inner) (nth book n) refl refl m q
     modes (suc (suc (suc (suc k)))) n m q = absurd (not-broken q)
 
+  -- with any goals pending
   goals : (r : Replay V) (x : Step) (l : List Goal) → r .pending ≡ l → (m : Replay V) →
       take-step book r x l ≡ went m → Took book r x m
   goals r x [] p m q = absurd (not-broken q)

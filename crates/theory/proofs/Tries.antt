@@ -20,6 +20,7 @@ abbrev pub In : Step → List Step → Type 0
 In x [] = ⊥
 In x (y ∷ ys) = (x ≡ y) ⊎ In x ys
 
+-- the step at a place is in the list
 among-in : (x : Step) (xs : List Step) (k : ℕ) → nth xs k ≡ Some x → In x xs
 among-in x [] k q = absurd (none-some q)
 among-in x (y ∷ ys) zero q = inl (sym (some-inj q))
@@ -37,10 +38,12 @@ in-left x [] k i = absurd i
 in-left x (y ∷ l) k (inl e) = inl e
 in-left x (y ∷ l) k (inr i) = inr (in-left x l k i)
 
+-- the second of them
 in-right : (x : Step) (l k : List Step) → In x k → In x (l ++ k)
 in-right x [] k i = i
 in-right x (y ∷ l) k i = inr (in-right x l k i)
 
+-- one of them
 pub in-either : (x : Step) (l k : List Step) → In x (l ++ k) → In x l ⊎ In x k
 in-either x [] k i = inr i
 in-either x (y ∷ l) k (inl e) = inl (inl e)
@@ -64,6 +67,7 @@ in-path n (y ∷ ys) f = go (eqb n y) refl f (in-path n ys)
 abbrev OnPath : Step → List ℕ → Type 0
 OnPath x path = (n : ℕ) × (x ≡ step-of 2 n) × (member n path ≡ true)
 
+-- and only they
 path-in : (x : Step) (path : List ℕ) → In x (map (step-of 2) path) → OnPath x path
 path-in x [] i = absurd i
 path-in x (y ∷ ys) (inl e) =
@@ -75,6 +79,7 @@ path-in x (y ∷ ys) (inr i) =
     later n true h = refl
     later n false h = h
 
+-- the kind is that of clauses
 abbrev IsClause : Kind → Type 0
 IsClause clause = Unit {0}
 IsClause cofact = ⊥
@@ -93,6 +98,7 @@ module _ {V : Type 0} where
   abbrev NamesEntry : Step → ℕ → List (Entry V) → Type 0
   NamesEntry x j l = (n : ℕ) × (e : Entry V) × (x ≡ step-of 3 (j + n)) × (nth l n ≡ Some e)
 
+  -- and only they
   entries-in : (x : Step) (j : ℕ) (l : List (Entry V)) → In x (entries-from j l) → NamesEntry x j l
   entries-in x j [] i = absurd i
   entries-in x j (y ∷ l) (inl e) = (0, y, e ∙ ap (step-of 3) (sym (add-zero j)), refl)
@@ -104,15 +110,18 @@ module _ {V : Type 0} where
   abbrev from : ℕ → Kind → List (Entry V) → List Step
   from j k l = elim k [ clause ↦ step-of 1 j ∷ clauses-from (suc j) l | cofact ↦ clauses-from (suc j) l ]
 
+  -- the first entry, where it is a clause
   this-clause : (j : ℕ) (k : Kind) (l : List (Entry V)) → k ≡ clause → In (step-of 1 j) (from j k l)
   this-clause j clause l c = inl refl
   this-clause j cofact l c = absurd (subst IsClause (sym c) tt)
 
+  -- a later one
   later-clause : (y : Step) (j : ℕ) (k : Kind) (l : List (Entry V)) → In y (clauses-from (suc j) l) →
       In y (from j k l)
   later-clause y j clause l i = inr i
   later-clause y j cofact l i = i
 
+  -- any of them
   in-clauses : (j n : ℕ) (l : List (Entry V)) (e : Entry V) → nth l n ≡ Some e → e .kind ≡ clause →
       In (step-of 1 (j + n)) (clauses-from j l)
   in-clauses j n [] e f c = absurd (none-some f)
@@ -128,6 +137,7 @@ module _ {V : Type 0} where
   abbrev NamesClause : Step → ℕ → List (Entry V) → Type 0
   NamesClause x j l = (n : ℕ) × (e : Entry V) × (x ≡ step-of 1 (j + n)) × (nth l n ≡ Some e) × (e .kind ≡ clause)
 
+  -- and only they
   clauses-in : (x : Step) (j : ℕ) (l : List (Entry V)) → In x (clauses-from j l) → NamesClause x j l
   clauses-in x j [] i = absurd i
   clauses-in x j (y ∷ l) i = go (y .kind) refl i (clauses-in x (suc j) l)
@@ -150,6 +160,7 @@ module _ {V : Type 0} where
       go cofact c i rest = one-more (rest i)
 
 module _ {V : Type 0} (book : List (Entry V)) where
+  -- the tries of a goal, by whether it is inner
   tries-as : (g : Goal) (b : Bool) → g .inner ≡ b → (x : Step) →
       In x (tries-of book b (g .path)) → In x (tries-of book (g .inner) (g .path))
   tries-as g b i x t = subst (λ b. In x (tries-of book b (g .path))) (sym i) t
