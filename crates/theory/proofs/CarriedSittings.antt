@@ -8,9 +8,14 @@ use Rattle.theory.specs.Known.{Known, nothing, after, known, known-from}
 use Rattle.theory.specs.Answers.{Defined}
 use Rattle.theory.specs.Sittings.{Right}
 use Rattle.theory.specs.Carried.{Cell, StandsFor, and-then, RightCall, Carries}
+use Rattle.theory.proofs.Elements.{none-some}
 use Rattle.theory.proofs.SoundSittings.{sound-right}
 use Rattle.theory.proofs.Histories.{right-push}
 use Rattle.theory.proofs.LawOfSittings.{law}
+
+-- no cells stand for nothing
+pub wiped : {V : Type 0} → StandsFor {V = V} [] nothing
+wiped = record { used = refl; readings = λ ρ trees. (λ m. m, λ m. m); nodes = λ i f xs e. absurd (none-some e) }
 
 module _ {V : Type 0} (book : List (Entry V)) where
   -- what is known after one more event

@@ -94,22 +94,33 @@ module _ {V : Type 0} (book : List (Entry V)) (supplied : ℕ) (k : Known V) whe
       no : NotTaken (wrote c) → ⊥
       no = not-taken (wrote c) (λ r e. never (cc))
 
-  -- an equation was accepted of cells in use, and some reading meets it with the others
-  pub of-equate : (x y w : ℕ) → Defined book supplied k (equate x y w) accepted →
-      InUse k (x ∷ y ∷ []) × Solvable (k .equations ++ (equal x y ∷ []))
-  of-equate x y w d =
-      let z : InUse k (x ∷ y ∷ []) × _ = taken no (used-cells k (x ∷ y ∷ []) accepted _ d) in
-      (z .0, fin (taken no (unless accepted too-short (lit≤ tt) (z .1))))
+  -- some reading meets the equation together with those accepted
+  abbrev Meetable : ℕ → ℕ → Type 0
+  Meetable x y = Solvable (k .equations ++ (equal x y ∷ []))
+
+  -- equate accepts where the equation can be met, and else says that it clashes
+  of-equate : (x y w : ℕ) (a : Answer) → Defined book supplied k (equate x y w) a →
+      NotTaken a ⊎ (InUse k (x ∷ y ∷ []) × If (Meetable x y) (a ≡ accepted) (a ≡ refused clash))
+  of-equate x y w a d =
+      then (used-cells k (x ∷ y ∷ []) a _ d) (λ z.
+      then (unless a too-short (lit≤ tt) (z .1)) (λ q. inr (z .0, q)))
+
+  pub of-equated : (x y w : ℕ) (a : Answer) → Defined book supplied k (equate x y w) a →
+      NotTaken a ⊎ If (Meetable x y) (a ≡ accepted) (a ≡ refused clash)
+  of-equated x y w a d = then (of-equate x y w a d) (λ z. inr (z .1))
+
+  -- what is accepted is of cells in use and can be met
+  pub of-accepted : (x y w : ℕ) → Defined book supplied k (equate x y w) accepted →
+      InUse k (x ∷ y ∷ []) × Meetable x y
+  of-accepted x y w d = fin (taken no (of-equate x y w accepted d))
     where
       no : NotTaken accepted → ⊥
       no = not-taken accepted (λ r e. never (cc))
 
-      S : Type 0
-      S = Solvable (k .equations ++ (equal x y ∷ []))
-
-      fin : If S (accepted ≡ accepted) (accepted ≡ refused clash) → S
-      fin (inl (s, e)) = s
-      fin (inr (n, e)) = never (cc)
+      fin : InUse k (x ∷ y ∷ []) × If (Meetable x y) (accepted ≡ accepted) (accepted ≡ refused clash) →
+          InUse k (x ∷ y ∷ []) × Meetable x y
+      fin (u, inl (s, e)) = (u, s)
+      fin (u, inr (n, e)) = never (cc)
 
   -- compare says same where the terms have the same tree in every reading, and else different
   pub of-compare : (x y w : ℕ) (a : Answer) → Defined book supplied k (compare x y w) a →

@@ -11,7 +11,7 @@ use Rattle.theory.specs.Entries.{Entry, BookRules}
 use Rattle.theory.specs.Held.{Held}
 use Rattle.theory.specs.Records.{Step, Term, cell, Replay, start, replay, Lawful, together}
 use Rattle.theory.specs.Check.{Verdict, passed, unlawful, no-cells, Check, Fitting, Exact}
-use Rattle.theory.specs.Calls.{compare, solve, check, Answer, grants, fails, passes, Event}
+use Rattle.theory.specs.Calls.{equate, compare, solve, check, Answer, grants, fails, passes, Event}
 use Rattle.theory.specs.Known.{Known, placed, recorded, known}
 use Rattle.theory.specs.Answers.{capacity, limits, answer-to}
 use Rattle.theory.specs.Sittings.{Right, At, NotTaken, Stands, Law}
@@ -21,7 +21,7 @@ use Rattle.theory.proofs.Replays.{leads-replay}
 use Rattle.theory.proofs.HeldGoals.{goals-held}
 use Rattle.theory.proofs.FailedSearches.{failed-none}
 use Rattle.theory.proofs.CheckVerdicts.{exact}
-use Rattle.theory.proofs.DefinedAnswers.{of-compare, of-failed, of-check}
+use Rattle.theory.proofs.DefinedAnswers.{of-equated, of-compare, of-failed, of-check}
 use Rattle.theory.proofs.SoundSittings.{granted-lawful, sound-right}
 use Rattle.theory.proofs.Histories.{More, right-before, right-then, defined-then, more-now}
 
@@ -164,6 +164,10 @@ module _ {V : Type 0} (book : List (Entry V)) (rules : BookRules book) (supplied
   -- all of it at one moment
   stands : Stands book supplied h
   stands = record {
+    sound = sound-right book rules supplied h right;
+    equated = λ before x y w a at.
+        of-equated book supplied (known book before) x y w a
+        (defined-then book supplied h right before (equate x y w) a at);
     compared = λ before x y w a at.
         of-compare book supplied (known book before) x y w a
         (defined-then book supplied h right before (compare x y w) a at);

@@ -21,7 +21,7 @@ use Rattle.theory.proofs.Replays.{leads-replay}
 use Rattle.theory.proofs.GrantedSearches.{granted-found}
 use Rattle.theory.proofs.NewCells.{node-tree, node-is, with-leaf, with-node}
 use Rattle.theory.proofs.PlacedInstances.{placed-low, placed-solves}
-use Rattle.theory.proofs.DefinedAnswers.{of-node, of-equate, of-granted}
+use Rattle.theory.proofs.DefinedAnswers.{of-node, of-accepted, of-granted}
 
 -- a tree that has no leaf
 module _ (V : Type 0) where
@@ -123,7 +123,7 @@ module _ {V : Type 0} (book : List (Entry V)) (rules : BookRules book) where
     sound-equated k x y w (wrote c) g d = g
     sound-equated k x y w accepted g d =
         let z : All (λ c. c < k .used) (x ∷ y ∷ []) × Solvable (k .equations ++ (equal x y ∷ [])) =
-        of-equate book supplied k x y w d in
+        of-accepted book supplied k x y w d in
         record {
           in-use =
               all-push (Names (λ c. c < k .used)) (k .equations) (equal x y) (g .in-use) (z .0 .0, z .0 .1 .0);
