@@ -24,14 +24,21 @@ module _ {V : Type 0} (book : List (Entry V)) where
   known-push k [] c a = refl
   known-push k (e ∷ h) c a = known-push (after book k (e .call) (e .answer)) h c a
 
-  -- a call that keeps its contract carries every right sitting on
-  pub carries : BookRules book → (supplied : ℕ) (cs cs′ : List (Cell V)) (c : Call V) (a : Answer) →
-      RightCall book supplied cs c a cs′ → Carries book supplied cs c a cs′
-  carries rules supplied cs cs′ c a f h r s =
-      let d : Defined book supplied (known book h) c a × StandsFor cs′ (after book (known book h) c a) =
-      f (known book h) (sound-right book rules supplied h r) s in
+  -- a call that answers as it should after every right sitting that leads to its cells carries each of them on
+  pub carries-from : BookRules book → (supplied : ℕ) (cs cs′ : List (Cell V)) (c : Call V) (a : Answer) →
+      ((h : List (Event V)) → Right book supplied h → StandsFor cs (known book h) →
+      Defined book supplied (known book h) c a × StandsFor cs′ (after book (known book h) c a)) →
+      Carries book supplied cs c a cs′
+  carries-from rules supplied cs cs′ c a f h r s =
+      let d : Defined book supplied (known book h) c a × StandsFor cs′ (after book (known book h) c a) = f h r s in
       let r′ : Right book supplied (and-then h c a) = right-push book supplied nothing h c a r (d .0) in (
         r′,
         law book rules supplied (and-then h c a) r′,
         subst (StandsFor cs′) (sym (known-push nothing h c a)) (d .1),
       )
+
+  -- so does a call that keeps its contract
+  pub carries : BookRules book → (supplied : ℕ) (cs cs′ : List (Cell V)) (c : Call V) (a : Answer) →
+      RightCall book supplied cs c a cs′ → Carries book supplied cs c a cs′
+  carries rules supplied cs cs′ c a f =
+      carries-from rules supplied cs cs′ c a (λ h r. f (known book h) (sound-right book rules supplied h r))
