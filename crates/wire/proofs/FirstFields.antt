@@ -29,7 +29,7 @@ use Rattle.wire.proofs.Seen.{cell-room}
 
 module _ (bs : List ℕ) (s : Split) (of : SplitOf bs s) where
   -- how long the field and what follows it are
-  lengths : (length (now (s .rest)) + (3 + length (first-field bs .contents)) ≡ length bs)
+  pub lengths : length (now (s .rest)) + (3 + length (first-field bs .contents)) ≡ length bs
   lengths =
       let w : 3 + size bs ≤ length bs = leb-true (3 + size bs) (length bs) (of .whole-field) in
       let r : length (now (s .rest)) ≡ length bs - (3 + size bs) = ap length (of .rest) ∙ length-drop (3 + size bs) bs in

@@ -1,4 +1,5 @@
-pub mod FirstFields
 pub mod Every
+pub mod FirstEntries
+pub mod FirstFields
 pub mod Items
 pub mod Seen

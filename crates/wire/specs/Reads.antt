@@ -7,15 +7,17 @@ use denote.Ref.{now}
 use lib.ListN.{length, getD, take, drop}
 use Rattle.std.specs.declared.option.Option.{Option}
 use Rattle.std.specs.declared.option.Option.the-variants.{Some, None}
-use Rattle.theory.specs.Entries.{Part}
+use Rattle.theory.specs.Entries.{Entry, Part}
 use Rattle.form.specs.Fields.{whole, first-field, after-field, cut}
 use Rattle.form.specs.declared.fault.Fault.{Fault}
-use Rattle.form.specs.Meanings.{Seen, bad, complete, unended, ending-of, goals-end, cell, goals, inner-fault, wrong, shape, variable-field, leaf-field, node-field, goals-field}
+use Rattle.form.specs.Meanings.{Ending, Found, entry, fault, on-found, row-of, Seen, bad, complete, unended, ending-of, goals-end, cell, goals, inner-fault, wrong, shape, variable-field, leaf-field, node-field, goals-field}
 use Rattle.std.specs.declared.result.Result.{Result}
 use Rattle.std.specs.declared.result.Result.the-variants.{Ok, Err}
-use Rattle.book.specs.Answers.{listed, part-of}
+use Rattle.book.specs.Answers.{kind-of, listed, part-of}
 use Rattle.wire.specs.declared.cells.Cells.{Cells}
 use Rattle.wire.specs.declared.contents.Contents.{Contents}
+use Rattle.wire.specs.declared.contents.EntryStep.{EntryStep}
+use Rattle.wire.specs.declared.contents.ReadEntry.{ReadEntry}
 use Rattle.wire.specs.declared.contents.Step.{Step}
 use Rattle.wire.specs.declared.item.Item.{Item}
 use Rattle.wire.specs.declared.item.Item.the-variants.{Cell, Goals}
@@ -52,6 +54,11 @@ ItemMeans place n s (Err f) = (s ≡ wrong (f .cause)) × (f ≡ inner-fault (f 
 abbrev pub held-parts : {V : Type 0} → Cells V → List (Part V)
 held-parts cs = map part-of (take (cs .count) (cs .list))
 
+-- how the contents that were read end
+abbrev pub ending-read : {V : Type 0} → Option (Contents V) → Ending V
+ending-read None = unended
+ending-read (Some c) = complete (held-parts (c .cells)) (c .goals .head) (listed (c .goals .body))
+
 module _ {V : Type 0} (wide : ℕ) (reading : List ℕ → Option V) where
   -- after a field the contents go on with one cell more, or end with the goals, and left is what follows the field
   abbrev pub GoesOn : List (Part V) → ℕ → List ℕ → Item V → List ℕ → Type 0
@@ -69,8 +76,29 @@ module _ {V : Type 0} (wide : ℕ) (reading : List ℕ → Option V) where
 
   -- how the contents of an entry were read: complete, without goals, or with a fault
   abbrev pub ContentsMean : ℕ → ℕ → List ℕ → Result (Option (Contents V)) Fault → Type 0
-  ContentsMean place n bs (Ok (Some c)) =
-      ending-of wide reading [] place bs ≡ complete (held-parts (c .cells)) (c .goals .head) (listed (c .goals .body))
-  ContentsMean place n bs (Ok None) = ending-of wide reading [] place bs ≡ unended
+  ContentsMean place n bs (Ok o) = ending-of wide reading [] place bs ≡ ending-read o
   ContentsMean place n bs (Err f) =
       (ending-of wide reading [] place bs ≡ bad (f .cause) (f .place)) × (f ≡ inner-fault (f .cause) (f .place) n)
+
+-- the entry that was read
+abbrev pub entry-read : {V : Type 0} → ReadEntry V → Entry V
+entry-read e =
+    record {
+      kind = kind-of (e .kind);
+      parts = held-parts (e .contents .cells);
+      head = e .contents .goals .head;
+      body = listed (e .contents .goals .body)
+    }
+
+-- a field of the row was read as the entry that it is, or as the fault in it
+abbrev pub EntryMeans : {V : Type 0} → Found V → Result (ReadEntry V) Fault → Type 0
+EntryMeans x (Ok e) = x ≡ entry (entry-read e)
+EntryMeans x (Err f) = x ≡ fault f
+
+-- an entry was read off the front of a book's bytes bs, the n-th; left is what follows it
+abbrev pub RowStep : {V : Type 0} → ℕ → (List ℕ → Option V) → ℕ → ℕ → List ℕ → Result (EntryStep V) Fault → Type 0
+RowStep wide reading place n bs (Ok s) =
+    (length (now (s .left)) < length bs)
+    × (row-of wide reading place n bs
+      ≡ on-found (entry (entry-read (s .entry))) (row-of wide reading (place + (length bs - length (now (s .left)))) (n + 1) (now (s .left))))
+RowStep wide reading place n bs (Err f) = row-of wide reading place n bs ≡ record { entries = []; first-fault = Some f }

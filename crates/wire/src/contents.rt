@@ -1,3 +1,4 @@
+use book::entry::EntryKind;
 use crate::cells::Cells;
 use crate::item::Goals;
 use crate::item::Item;
@@ -15,4 +16,18 @@ pub struct Step<'a, L> {
 pub struct Contents<L> {
     pub cells: Cells<L>,
     pub goals: Goals,
+}
+
+// An entry that was read: its kind and what it holds.
+#[derive(Drop)]
+pub struct ReadEntry<L> {
+    pub kind: EntryKind,
+    pub contents: Contents<L>,
+}
+
+// One entry of a book, read, and the bytes that follow it.
+#[derive(Drop)]
+pub struct EntryStep<'a, L> {
+    pub entry: ReadEntry<L>,
+    pub left: &'a [u8],
 }

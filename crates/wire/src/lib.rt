@@ -6,5 +6,6 @@ pub mod faults;
 pub mod field;
 pub mod item;
 pub mod read_contents;
+pub mod read_entry;
 pub mod read_field;
 pub mod split;
