@@ -1,0 +1,5 @@
+pub mod Cells
+pub mod Solved
+pub mod Readings
+pub mod Unify
+pub mod Theorems

@@ -1,0 +1,63 @@
+-- What holds of solved cells, of the unifier and of the comparison. Assumes nothing.
+use mathlib.Core.Path.{_≡_}
+use mathlib.Core.Bool.{Bool, true, false}
+use mathlib.Core.List.{List}
+use mathlib.Core.Logic.{_↔_}
+use Prim.Native.Nat.{ℕ, _<_}
+use lib.ListN.{length}
+use Rattle.theory.specs.Trees.{Tree, IsTree, Same}
+use Rattle.theory.specs.Equations.{MeetsAll, Solves, Entails, IsAtom}
+use Rattle.unify.specs.Cells.{Content, variable, leaf, node, Cell, content-at, root}
+use Rattle.unify.specs.Solved.{stated, Solved}
+use Rattle.unify.specs.Readings.{OpenRoot}
+use Rattle.unify.specs.Unify.{Outcome, agreed, refused, unify, compare}
+
+-- a test that says whether two values are the same
+pub record Decides {V : Type 0} (same : V → V → Bool) : Type 0 where
+  pub yields : (v w : V) → same v w ≡ true → v ≡ w
+  pub denies : (v w : V) → same v w ≡ false → v ≡ w → ⊥
+
+-- solved cells have a reading for every choice of trees at the open roots
+abbrev pub Solved-cells-have-readings : Type 0 → Type 0
+Solved-cells-have-readings V = (cells : List (Cell V)) → Solved cells → (given : ℕ → Tree V) → ((i : ℕ) → IsTree (given i)) →
+    (ρ : ℕ → Tree V) × Solves (stated cells) ρ × ((i : ℕ) → OpenRoot cells i → Same (ρ i) (given i))
+
+module _ {V : Type 0} where
+  -- the same number of cells, with the same contents
+  pub record SameContents (cells cs : List (Cell V)) : Type 0 where
+    pub number : length cs ≡ length cells
+    pub contents : (i : ℕ) → content-at cs i ≡ content-at cells i
+
+  -- where unifying agrees the cells are solved again, and their readings are the old ones that meet the new equation;
+  -- where it refuses no reading meets it, and the cells are the old ones
+  abbrev pub Unified : List (Cell V) → ℕ → ℕ → Outcome V → Type 0
+  Unified cells a b (agreed cs) = Solved cs × SameContents cells cs ×
+      ((ρ : ℕ → Tree V) → MeetsAll ρ (stated cs) ↔ (MeetsAll ρ (stated cells) × Same (ρ a) (ρ b)))
+  Unified cells a b (refused cs) = (cs ≡ cells) ×
+      ((ρ : ℕ → Tree V) → MeetsAll ρ (stated cells) → Same (ρ a) (ρ b) → ⊥)
+
+  -- where comparing agrees every reading gives the two terms the same tree; where it refuses some reading tells them apart
+  abbrev pub Compared : List (Cell V) → ℕ → ℕ → Outcome V → Type 0
+  Compared cells a b (agreed cs) = (cs ≡ cells) × Entails (stated cells) a b
+  Compared cells a b (refused cs) = (cs ≡ cells) ×
+      ((ρ : ℕ → Tree V) × Solves (stated cells) ρ × (Same (ρ a) (ρ b) → ⊥))
+
+  -- a node was written there
+  abbrev pub IsNode : Content V → Type 0
+  IsNode variable = ⊥
+  IsNode (leaf v) = ⊥
+  IsNode (node f xs) = Unit {0}
+
+-- the unifier and the comparison are right on solved cells
+abbrev pub Unify-is-right : (V : Type 0) → Type 0
+Unify-is-right V = (same : V → V → Bool) → Decides same → (cells : List (Cell V)) → Solved cells →
+    (a b : ℕ) → a < length cells → b < length cells → Unified cells a b (unify same cells a b)
+
+abbrev pub Compare-is-right : (V : Type 0) → Type 0
+Compare-is-right V = (same : V → V → Bool) → Decides same → (cells : List (Cell V)) → Solved cells →
+    (a b : ℕ) → a < length cells → b < length cells → Compared cells a b (compare same cells a b)
+
+-- a term is a node or joined to one exactly when a node stands at its root
+abbrev pub Atoms-are-nodes : (V : Type 0) → Type 0
+Atoms-are-nodes V = (cells : List (Cell V)) → Solved cells → (i : ℕ) →
+    IsNode (content-at cells (root cells i)) ↔ IsAtom (stated cells) i
