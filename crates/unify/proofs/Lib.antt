@@ -5,3 +5,8 @@ pub mod Matching
 pub mod CellReads
 pub mod ReadingTrees
 pub mod ReadingMeets
+pub mod Growth
+pub mod Fitting
+pub mod Invariant
+pub mod Meeting
+pub mod Unified

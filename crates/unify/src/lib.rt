@@ -1,10 +1,17 @@
-ghost use Rattle.unify.specs.Theorems.{Solved-cells-have-readings};
+ghost use Rattle.unify.specs.Theorems.{Solved-cells-have-readings, Unify-is-right};
 
 pub trait Leaf: Copy {}
 
 // Solved cells have a reading for every choice of trees at the open roots.
 pub fn solved_cells_have_readings<L: Leaf>() -> u8
     ensures { λ _. ⌜ Solved-cells-have-readings L ⌝ }
+{
+    0
+}
+
+// The unifier agrees exactly when some reading gives the two terms one tree, and then leaves just those readings.
+pub fn unify_is_right<L: Leaf>() -> u8
+    ensures { λ _. ⌜ Unify-is-right L ⌝ }
 {
     0
 }
