@@ -23,13 +23,13 @@ both-hold : (b d : Bool) → cond b d false ≡ true → (b ≡ true) × (d ≡ 
 both-hold true d e = (refl, e)
 both-hold false d e = absurd (both-ways false refl e)
 
-same-node : (V : Type 0) (f g m n : ℕ) → _≡_ {A = Option (Label V)} (Some (Label.node f m)) (Some (Label.node g n)) → (f ≡ g) × (m ≡ n)
+pub same-node : (V : Type 0) (f g m n : ℕ) → _≡_ {A = Option (Label V)} (Some (Label.node f m)) (Some (Label.node g n)) → (f ≡ g) × (m ≡ n)
 same-node V f g m n e = (cc, cc)
 
 same-leaf : {V : Type 0} (v w : V) → Some (Label.leaf v) ≡ Some (Label.leaf w) → v ≡ w
 same-leaf v w e = cc
 
-leaf-node : {V : Type 0} (v : V) (f n : ℕ) → Some (Label.leaf v) ≡ Some (Label.node f n) → ⊥
+pub leaf-node : {V : Type 0} (v : V) (f n : ℕ) → Some (Label.leaf v) ≡ Some (Label.node f n) → ⊥
 leaf-node v f n e = let z : _≡_ {A = ℕ} 0 1 = cc in omega arith
 
 -- ranks of different cells differ

@@ -10,3 +10,7 @@ pub mod Fitting
 pub mod Invariant
 pub mod Meeting
 pub mod Unified
+pub mod Constants
+pub mod Bisimilar
+pub mod Apart
+pub mod Compared

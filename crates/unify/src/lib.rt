@@ -1,4 +1,4 @@
-ghost use Rattle.unify.specs.Theorems.{Solved-cells-have-readings, Unify-is-right};
+ghost use Rattle.unify.specs.Theorems.{Solved-cells-have-readings, Unify-is-right, Compare-is-right};
 
 pub trait Leaf: Copy {}
 
@@ -12,6 +12,13 @@ pub fn solved_cells_have_readings<L: Leaf>() -> u8
 // The unifier agrees exactly when some reading gives the two terms one tree, and then leaves just those readings.
 pub fn unify_is_right<L: Leaf>() -> u8
     ensures { λ _. ⌜ Unify-is-right L ⌝ }
+{
+    0
+}
+
+// The comparison says whether every reading gives the two terms one tree, and where not there is one that tells them apart.
+pub fn compare_is_right<L: Leaf>() -> u8
+    ensures { λ _. ⌜ Compare-is-right L ⌝ }
 {
     0
 }
