@@ -14,3 +14,4 @@ pub mod Constants
 pub mod Bisimilar
 pub mod Apart
 pub mod Compared
+pub mod Atoms

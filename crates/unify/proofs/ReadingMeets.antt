@@ -28,7 +28,7 @@ module _ {V : Type 0} (cs : List (Cell V)) (given : ℕ → Tree V) where
   one-root i j e [] = ap (λ r. label-here (content-at cs r) (given r [])) e
   one-root i j e (k ∷ p) = ap (λ r. label-below (content-at cs r) (given r (k ∷ p)) k (λ x. reading cs given x p)) e
 
-  label-is : (i : ℕ) (d : Content V) → content-at cs (root cs i) ≡ d → at i [] ≡ label-here d (given (root cs i) [])
+  pub label-is : (i : ℕ) (d : Content V) → content-at cs (root cs i) ≡ d → at i [] ≡ label-here d (given (root cs i) [])
   unfolding reading
   label-is i d e = ap (λ c. label-here c (given (root cs i) [])) e
 

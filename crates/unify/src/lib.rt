@@ -1,4 +1,4 @@
-ghost use Rattle.unify.specs.Theorems.{Solved-cells-have-readings, Unify-is-right, Compare-is-right};
+ghost use Rattle.unify.specs.Theorems.{Solved-cells-have-readings, Unify-is-right, Compare-is-right, Atoms-are-nodes};
 
 pub trait Leaf: Copy {}
 
@@ -19,6 +19,13 @@ pub fn unify_is_right<L: Leaf>() -> u8
 // The comparison says whether every reading gives the two terms one tree, and where not there is one that tells them apart.
 pub fn compare_is_right<L: Leaf>() -> u8
     ensures { λ _. ⌜ Compare-is-right L ⌝ }
+{
+    0
+}
+
+// A term is a node, or joined to one, exactly when a node stands at its root.
+pub fn atoms_are_nodes<L: Leaf>() -> u8
+    ensures { λ _. ⌜ Atoms-are-nodes L ⌝ }
 {
     0
 }
