@@ -11,7 +11,7 @@ use Rattle.theory.specs.Equations.{Solves, Entails}
 use Rattle.unify.specs.Cells.{Content, variable, leaf, node, Cell, content-at, joined-at, root}
 use Rattle.unify.specs.Solved.{Solved, stated}
 use Rattle.unify.specs.Readings.{reading, OpenRoot}
-use Rattle.unify.specs.Unify.{State, Move, went, clash, clear, fits, join, compared, compare}
+use Rattle.unify.specs.Unify.{State, Move, went, clash, clear, fits, join, compare}
 use Rattle.unify.specs.Theorems.{Decides, Compared}
 use Rattle.unify.proofs.Places.{none-some}
 use Rattle.unify.proofs.Roots.{IsVariable}
@@ -72,14 +72,13 @@ module _ {V : Type 0} (same : V → V → Bool) (law : Decides same) (old : List
       was : (i : ℕ) → joined-at (s .cells) i ≡ None → joined-at old i ≡ None
       was i h = none-since (joined-at old i) (λ j z. none-some (sym h ∙ inv .kept i j z))
 
-  right : (m : Move V) → Good same false law old ok a b Differ tells-apart (Joined same false law old ok a b Differ tells-apart) m → Compared old a b (compared m)
-  unfolding compared
-  right (went t) g = (
-    g .inv .undone,
-    λ ρ z p. bisimilar old (t .cells) ok (solved-again false old ok a b t (g .inv) (g .done)) (g .inv .kept) (g .inv .contents)
-        (g .inv .written refl) ρ (z .trees) (meets-reads ρ old (z .meets)) p a b (g .one),
-  )
-  right (clash t) g = (g .1, g .0)
+  right : (m : Move V) → Good same false law old ok a b Differ tells-apart (Joined same false law old ok a b Differ tells-apart) m → Compared old a b m
+  right (went t) g = record {
+    undone = g .inv .undone;
+    entails = λ ρ z p. bisimilar old (t .cells) ok (solved-again false old ok a b t (g .inv) (g .done)) (g .inv .kept) (g .inv .contents)
+        (g .inv .written refl) ρ (z .trees) (meets-reads ρ old (z .meets)) p a b (g .one);
+  }
+  right (clash t) g = record { undone = g .1; ρ = g .0 .0; solves = g .0 .1; apart = g .0 .2 }
 
   pub compare-right : Compared old a b (compare same old a b)
   unfolding compare

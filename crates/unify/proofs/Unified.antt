@@ -14,7 +14,7 @@ use Rattle.theory.specs.Trees.{Tree, Same}
 use Rattle.theory.specs.Equations.{MeetsAll}
 use Rattle.unify.specs.Cells.{Content, variable, leaf, node, Cell, most, content-at, joined-at, root}
 use Rattle.unify.specs.Solved.{Matches, SameRoots, Solved, stated}
-use Rattle.unify.specs.Unify.{State, Move, went, clash, clear, fits, join, unified, unify}
+use Rattle.unify.specs.Unify.{State, Move, went, clash, clear, fits, join, unify}
 use Rattle.unify.specs.Theorems.{Decides, SameContents, Unified}
 use Rattle.unify.proofs.Places.{nth-inside}
 use Rattle.unify.proofs.Roots.{IsVariable}
@@ -82,17 +82,17 @@ module _ {V : Type 0} (same : V → V → Bool) (law : Decides same) (old : List
       let w = unfit-written (content-at old r) (content-at old t) e in
       unfit-labels same true law ρ r t (content-at old r) (content-at old t) (w .0) (w .1) e (z .contents r) (z .contents t) (f ρ z h)
 
-  right : (m : Move V) → Good same true law old ok a b NoReading none-left (Joined same true law old ok a b NoReading none-left) m → Unified old a b (unified m)
-  unfolding unified
-  right (went t) g = (
-    solved-again true old ok a b t (g .inv) (g .done),
-    same-contents true old ok a b t (g .inv),
-    λ ρ. (
+  right : (m : Move V) → Good same true law old ok a b NoReading none-left (Joined same true law old ok a b NoReading none-left) m → Unified old a b m
+  right (went t) g = record {
+    solved = solved-again true old ok a b t (g .inv) (g .done);
+    contents = same-contents true old ok a b t (g .inv);
+    undone = g .inv .undone;
+    readings = λ ρ. (
       λ m. let h = reads-old true old ok a b t (g .inv) (g .one) ρ (meets-reads ρ (t .cells) m) in (reads-meets ρ old (h .0), h .1),
       λ h. reads-meets ρ (t .cells) (reads-new true old ok a b t (g .inv) ρ (meets-reads ρ old (h .0)) (h .1)),
-    ),
-  )
-  right (clash t) g = (g .1, g .0)
+    );
+  }
+  right (clash t) g = record { undone = g .1; hopeless = g .0 }
 
   pub unify-right : Unified old a b (unify same old a b)
   unfolding unify

@@ -10,7 +10,7 @@ use Rattle.theory.specs.Equations.{MeetsAll, Solves, Entails, IsAtom}
 use Rattle.unify.specs.Cells.{Content, variable, leaf, node, Cell, content-at, root}
 use Rattle.unify.specs.Solved.{stated, Solved}
 use Rattle.unify.specs.Readings.{OpenRoot}
-use Rattle.unify.specs.Unify.{Outcome, agreed, refused, unify, compare}
+use Rattle.unify.specs.Unify.{State, Move, went, clash, clear, unify, compare}
 
 -- a test that says whether two values are the same
 pub record Decides {V : Type 0} (same : V → V → Bool) : Type 0 where
@@ -28,19 +28,41 @@ module _ {V : Type 0} where
     pub number : length cs ≡ length cells
     pub contents : (i : ℕ) → content-at cs i ≡ content-at cells i
 
-  -- where unifying agrees the cells are solved again, and their readings are the old ones that meet the new equation;
-  -- where it refuses no reading meets it, and the cells are the old ones
-  abbrev pub Unified : List (Cell V) → ℕ → ℕ → Outcome V → Type 0
-  Unified cells a b (agreed cs) = Solved cs × SameContents cells cs ×
-      ((ρ : ℕ → Tree V) → MeetsAll ρ (stated cs) ↔ (MeetsAll ρ (stated cells) × Same (ρ a) (ρ b)))
-  Unified cells a b (refused cs) = (cs ≡ cells) ×
-      ((ρ : ℕ → Tree V) → MeetsAll ρ (stated cells) → Same (ρ a) (ρ b) → ⊥)
+  -- the joins of the trail taken back, the cells are the old ones
+  abbrev pub Undone : List (Cell V) → State V → Type 0
+  Undone cells s = clear (s .trail) (s .cells) ≡ cells
 
-  -- where comparing agrees every reading gives the two terms the same tree; where it refuses some reading tells them apart
-  abbrev pub Compared : List (Cell V) → ℕ → ℕ → Outcome V → Type 0
-  Compared cells a b (agreed cs) = (cs ≡ cells) × Entails (stated cells) a b
-  Compared cells a b (refused cs) = (cs ≡ cells) ×
-      ((ρ : ℕ → Tree V) × Solves (stated cells) ρ × (Same (ρ a) (ρ b) → ⊥))
+  -- unifying went well: the cells are solved again, and their readings are the old ones that meet the new equation
+  pub record Agreed (cells : List (Cell V)) (a b : ℕ) (s : State V) : Type 0 where
+    pub solved : Solved (s .cells)
+    pub contents : SameContents cells (s .cells)
+    pub undone : Undone cells s
+    pub readings : (ρ : ℕ → Tree V) → MeetsAll ρ (stated (s .cells)) ↔ (MeetsAll ρ (stated cells) × Same (ρ a) (ρ b))
+
+  -- unifying met a clash: no reading meets the new equation
+  pub record Refused (cells : List (Cell V)) (a b : ℕ) (s : State V) : Type 0 where
+    pub undone : Undone cells s
+    pub hopeless : (ρ : ℕ → Tree V) → MeetsAll ρ (stated cells) → Same (ρ a) (ρ b) → ⊥
+
+  abbrev pub Unified : List (Cell V) → ℕ → ℕ → Move V → Type 0
+  Unified cells a b (went s) = Agreed cells a b s
+  Unified cells a b (clash s) = Refused cells a b s
+
+  -- comparing went well: every reading gives the two terms the same tree
+  pub record Equal (cells : List (Cell V)) (a b : ℕ) (s : State V) : Type 0 where
+    pub undone : Undone cells s
+    pub entails : Entails (stated cells) a b
+
+  -- comparing met a clash: this reading tells the two terms apart
+  pub record Different (cells : List (Cell V)) (a b : ℕ) (s : State V) : Type 0 where
+    pub undone : Undone cells s
+    pub ρ : ℕ → Tree V
+    pub solves : Solves (stated cells) ρ
+    pub apart : Same (ρ a) (ρ b) → ⊥
+
+  abbrev pub Compared : List (Cell V) → ℕ → ℕ → Move V → Type 0
+  Compared cells a b (went s) = Equal cells a b s
+  Compared cells a b (clash s) = Different cells a b s
 
   -- a node was written there
   abbrev pub IsNode : Content V → Type 0

@@ -110,24 +110,11 @@ module _ {V : Type 0} (same : V → V → Bool) (open-joins : Bool) where
   unfoldable pub join : List (Cell V) → ℕ → ℕ → Move V
   join cells a b = after (meet (start cells) a b) (settle (length cells))
 
--- yes or no, with the cells as they are afterwards
-pub data Outcome (V : Type 0) : Type 0 where
-  agreed : List (Cell V) → Outcome V
-  refused : List (Cell V) → Outcome V
-
 module _ {V : Type 0} where
-  unfoldable pub unified : Move V → Outcome V
-  unified (went s) = agreed (s .cells)
-  unified (clash s) = refused (clear (s .trail) (s .cells))
+  -- unifies two cells; where it goes well the joins stay
+  unfoldable pub unify : (V → V → Bool) → List (Cell V) → ℕ → ℕ → Move V
+  unify same cells a b = join same true cells a b
 
-  unfoldable pub compared : Move V → Outcome V
-  compared (went s) = agreed (clear (s .trail) (s .cells))
-  compared (clash s) = refused (clear (s .trail) (s .cells))
-
-  -- unifies two cells: their joins stay where it agrees, and are taken back where not
-  unfoldable pub unify : (V → V → Bool) → List (Cell V) → ℕ → ℕ → Outcome V
-  unify same cells a b = unified (join same true cells a b)
-
-  -- compares two cells: the joins are taken back in any case
-  unfoldable pub compare : (V → V → Bool) → List (Cell V) → ℕ → ℕ → Outcome V
-  compare same cells a b = compared (join same false cells a b)
+  -- compares two cells; whatever comes of it, the joins are taken back
+  unfoldable pub compare : (V → V → Bool) → List (Cell V) → ℕ → ℕ → Move V
+  compare same cells a b = join same false cells a b
