@@ -7,22 +7,13 @@ use native.Mathlib.Omega.{arith}
 use lib.ListN.{length}
 use Rattle.std.specs.declared.option.Option.{Option}
 use Rattle.std.specs.declared.option.Option.the-variants.{Some, None}
-use Rattle.unify.specs.Cells.{Content, variable, leaf, node, Cell, content-at, joined-at, rejoin, rank, rank-of}
-
--- how many cells are joined to none
-abbrev pub one-if-none : Option ℕ → ℕ
-one-if-none None = 1
-one-if-none (Some j) = 0
+use Rattle.unify.specs.Cells.{Content, variable, leaf, node, Cell, content-at, joined-at, rejoin, rank, rank-of, one-if-none, unjoined}
 
 one-at-most : (o : Option ℕ) → one-if-none o ≤ 1
 one-at-most None = omega arith
 one-at-most (Some j) = omega arith
 
 module _ {V : Type 0} where
-  unfoldable pub unjoined : List (Cell V) → ℕ
-  unjoined [] = 0
-  unjoined (c ∷ cs) = one-if-none (c .joined) + unjoined cs
-
   pub unjoined-few : (cs : List (Cell V)) → unjoined cs ≤ length cs
   unfolding unjoined
   unjoined-few [] = omega arith

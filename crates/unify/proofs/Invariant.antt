@@ -12,11 +12,11 @@ use Rattle.std.specs.Finite.{nth}
 use Rattle.std.specs.declared.option.Option.{Option}
 use Rattle.std.specs.declared.option.Option.the-variants.{Some, None}
 use Rattle.theory.specs.Trees.{Tree, Same}
-use Rattle.unify.specs.Cells.{Content, variable, leaf, node, Cell, content-at, joined-at, rejoin, rank, rank-of, root}
+use Rattle.unify.specs.Cells.{Content, variable, leaf, node, Cell, content-at, joined-at, rejoin, rank, rank-of, root, unjoined}
 use Rattle.unify.specs.Solved.{Matches, SameRoots, Descends, Solved}
 use Rattle.unify.specs.Unify.{State, start, link, next, clear}
 use Rattle.unify.proofs.Places.{none-some, some-same, nth-inside}
-use Rattle.unify.proofs.CellLaws.{unjoined, content-rejoin, length-rejoin, joined-here, joined-apart, rejoin-back, unjoined-rejoin}
+use Rattle.unify.proofs.CellLaws.{content-rejoin, length-rejoin, joined-here, joined-apart, rejoin-back, unjoined-rejoin}
 use Rattle.unify.proofs.Roots.{IsVariable}
 use Rattle.unify.proofs.Matching.{SameLength, roots-length}
 use Rattle.unify.proofs.CellReads.{Reads}

@@ -15,3 +15,5 @@ pub mod Bisimilar
 pub mod Apart
 pub mod Compared
 pub mod Atoms
+pub mod Steadiness
+pub mod Turns

@@ -3,7 +3,7 @@ use mathlib.Core.Path.{_≡_, refl, sym, _∙_, ap, subst, subst₂}
 use mathlib.Core.Bool.{Bool, true, false}
 use mathlib.Core.List.{List, [], _∷_, _++_}
 use mathlib.Core.Logic.{_⊎_, inl, inr}
-use Prim.Native.Nat.{ℕ, zero, suc, _+_, _<_, _≤_}
+use Prim.Native.Nat.{ℕ, zero, suc, _+_, _-_, _<_, _≤_}
 use native.Mathlib.Omega.{arith}
 use lib.ListN.{length}
 use lib.Dec.{eqb, ltb}
@@ -13,12 +13,12 @@ use Rattle.std.specs.declared.option.Option.{Option}
 use Rattle.std.specs.declared.option.Option.the-variants.{Some, None}
 use Rattle.theory.specs.Trees.{Tree, Same}
 use Rattle.theory.specs.Equations.{Children}
-use Rattle.unify.specs.Cells.{Content, variable, leaf, node, Cell, most, content-at, joined-at, rejoin, rank, rank-of, root}
+use Rattle.unify.specs.Cells.{Content, variable, leaf, node, Cell, most, content-at, joined-at, rejoin, rank, rank-of, root, unjoined}
 use Rattle.unify.specs.Solved.{Matches, SameRoots, Descends, Solved}
-use Rattle.unify.specs.Unify.{State, Move, went, clash, start, link, link-down, next, after, clear, fits, link-if, meet-roots, meet, meet-all, meet-arguments, pay-to, pay, turn, settle, join}
+use Rattle.unify.specs.Unify.{State, Move, went, clash, start, link, link-down, next, after, clear, fits, link-if, meet-roots, meet, meet-all, meet-arguments, pay-to, pay, turn, settle, rest, join}
 use Rattle.unify.specs.Theorems.{Decides}
 use Rattle.unify.proofs.Places.{none-some, some-same}
-use Rattle.unify.proofs.CellLaws.{unjoined, unjoined-few, content-past}
+use Rattle.unify.proofs.CellLaws.{unjoined-few, content-past}
 use Rattle.unify.proofs.Roots.{IsVariable, root-some, root-ends, root-inside}
 use Rattle.unify.proofs.CellReads.{Reads, MeetsContent, reads-root}
 use Rattle.unify.proofs.Matching.{SameLength}
@@ -304,13 +304,19 @@ module _ {V : Type 0} (same : V → V → Bool) (open-joins : Bool) (law : Decid
     pub done : length (t .trail) ≤ t .place
     pub one : root (t .cells) a ≡ root (t .cells) b
 
+  pub rest-good : (s : State V) → OK s → Good (Settled s) (rest same open-joins s)
+  unfolding rest
+  rest-good s inv =
+      settle-good (length (s .cells) - s .place) s inv
+      (let h : unjoined old ≤ length old = unjoined-few old in let k : length (s .cells) ≡ length old = inv .number in omega arith)
+
   pub join-good : a < length old → b < length old → Good Joined (join same open-joins old a b)
   unfolding join
   join-good ha hb =
-      after-good (Met (start old) a b) Joined (meet same open-joins (start old) a b) (settle same open-joins (length old))
+      after-good (Met (start old) a b) Joined (meet same open-joins (start old) a b) (rest same open-joins)
       (meet-good (start old) (start-inv open-joins old a b ok) a b ha hb (λ ρ r e. e))
-      (λ t m. map-good (Settled t) Joined (settle same open-joins (length old) t)
-      (settle-good (length old) t (m .inv) (let h : unjoined old ≤ length old = unjoined-few old in omega arith))
+      (λ t m. map-good (Settled t) Joined (rest same open-joins t)
+      (rest-good t (m .inv))
       (λ u z. record {
         inv = z .inv;
         done = z .done;

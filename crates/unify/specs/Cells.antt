@@ -31,6 +31,11 @@ abbrev pub onward : Option ℕ → ℕ → (ℕ → ℕ) → ℕ
 onward None i go = i
 onward (Some j) i go = go j
 
+-- one for a cell that is joined to none
+abbrev pub one-if-none : Option ℕ → ℕ
+one-if-none None = 1
+one-if-none (Some j) = 0
+
 module _ {V : Type 0} where
   -- the content of the i-th cell; past the last cell all is variable
   unfoldable pub content-at : List (Cell V) → ℕ → Content V
@@ -62,3 +67,8 @@ module _ {V : Type 0} where
   -- the cell at the end of the i-th cell's chain of joins
   unfoldable pub root : List (Cell V) → ℕ → ℕ
   root cells i = chase (rank cells i) cells i
+
+  -- how many cells are joined to none
+  unfoldable pub unjoined : List (Cell V) → ℕ
+  unjoined [] = 0
+  unjoined (c ∷ cs) = one-if-none (c .joined) + unjoined cs

@@ -2,4 +2,5 @@ pub mod Cells
 pub mod Solved
 pub mod Readings
 pub mod Unify
+pub mod Steady
 pub mod Theorems

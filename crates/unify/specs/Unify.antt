@@ -2,7 +2,7 @@
 use mathlib.Core.Path.{_≡_}
 use mathlib.Core.Bool.{Bool, true, false, cond}
 use mathlib.Core.List.{List, [], _∷_, _++_}
-use Prim.Native.Nat.{ℕ, zero, suc}
+use Prim.Native.Nat.{ℕ, zero, suc, _-_}
 use lib.ListN.{length}
 use lib.Dec.{eqb, ltb}
 use Rattle.std.specs.Finite.{nth}
@@ -98,17 +98,21 @@ module _ {V : Type 0} (same : V → V → Bool) (open-joins : Bool) where
 
   -- one turn at the trail's entry at the present place, if there is one, and then the rest
   unfoldable pub turn : Option ℕ → State V → (State V → Move V) → Move V
-  turn None s rest = went s
-  turn (Some i) s rest = after (pay s i) (λ t. rest (next t))
+  turn None s go = went s
+  turn (Some i) s go = after (pay s i) (λ t. go (next t))
 
   -- goes through the trail as a queue, for at most so many turns
   unfoldable pub settle : ℕ → State V → Move V
   settle zero s = went s
   settle (suc n) s = turn (nth (s .trail) (s .place)) s (settle n)
 
-  -- joins the two roots, then settles all that follows; each cell is joined once at most
+  -- all that is left to do; each cell is joined once at most, so a turn for each suffices
+  unfoldable pub rest : State V → Move V
+  rest s = settle (length (s .cells) - s .place) s
+
+  -- joins the two roots, then settles all that follows from it
   unfoldable pub join : List (Cell V) → ℕ → ℕ → Move V
-  join cells a b = after (meet (start cells) a b) (settle (length cells))
+  join cells a b = after (meet (start cells) a b) rest
 
 module _ {V : Type 0} where
   -- unifies two cells; where it goes well the joins stay
