@@ -17,3 +17,4 @@ pub mod Compared
 pub mod Atoms
 pub mod Steadiness
 pub mod Turns
+pub mod Written

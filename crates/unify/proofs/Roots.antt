@@ -91,7 +91,7 @@ module _ {V : Type 0} where
     inside-of c (leaf w) i j past h few r = written (leaf w) j (λ v. v) past (cases-lt j (length cs))
     inside-of c (node g ys) i j past h few r = written (node g ys) j (λ v. v) past (cases-lt j (length cs))
 
-    target-inside : length cs ≤ most → (i j : ℕ) → joined-at cs i ≡ Some j → i < length cs → j < length cs
+    pub target-inside : length cs ≤ most → (i j : ℕ) → joined-at cs i ≡ Some j → i < length cs → j < length cs
     unfolding rank
     target-inside few i j e h = inside-of (content-at cs i) (content-at cs j) i j (content-past cs j) h few (down i j e)
 

@@ -3,4 +3,5 @@ pub mod Solved
 pub mod Readings
 pub mod Unify
 pub mod Steady
+pub mod Writing
 pub mod Theorems

@@ -1,6 +1,14 @@
 ghost use Rattle.unify.specs.Theorems.{Solved-cells-have-readings, Unify-is-right, Compare-is-right, Atoms-are-nodes};
+ghost use Rattle.unify.specs.Writing.{Writing-keeps-solved};
 
 pub trait Leaf: Copy {}
+
+// No cells are solved, and a new cell keeps them so.
+pub fn writing_keeps_solved<L: Leaf>() -> u8
+    ensures { λ _. ⌜ Writing-keeps-solved L ⌝ }
+{
+    0
+}
 
 // Solved cells have a reading for every choice of trees at the open roots.
 pub fn solved_cells_have_readings<L: Leaf>() -> u8
