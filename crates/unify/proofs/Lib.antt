@@ -14,7 +14,9 @@ pub mod Constants
 pub mod Bisimilar
 pub mod Apart
 pub mod Compared
-pub mod Atoms
+pub mod Nodes
 pub mod Steadiness
 pub mod Turns
 pub mod Written
+pub mod Worked
+pub mod Meant

@@ -5,3 +5,5 @@ pub mod Unify
 pub mod Steady
 pub mod Writing
 pub mod Theorems
+pub mod Meaning
+pub mod Cases

@@ -1,4 +1,6 @@
 ghost use Rattle.unify.specs.Theorems.{Solved-cells-have-readings, Unify-is-right, Compare-is-right, Atoms-are-nodes};
+ghost use Rattle.unify.specs.Meaning.{Meaning-is-kept};
+ghost use Rattle.unify.specs.Cases.{Worked-cases};
 ghost use Rattle.unify.specs.Writing.{Writing-keeps-solved};
 
 pub trait Leaf: Copy {}
@@ -34,6 +36,21 @@ pub fn compare_is_right<L: Leaf>() -> u8
 // A term is a node, or joined to one, exactly when a node stands at its root.
 pub fn atoms_are_nodes<L: Leaf>() -> u8
     ensures { λ _. ⌜ Atoms-are-nodes L ⌝ }
+{
+    0
+}
+
+// Whatever equations cells mean: writing adds to them, unifying adds the new one where that leaves a reading,
+// comparing says what they entail, and roots say which terms are atoms.
+pub fn meaning_is_kept<L: Leaf>() -> u8
+    ensures { λ _. ⌜ Meaning-is-kept L ⌝ }
+{
+    0
+}
+
+// Loops that unfold to the same tree are equal; open cells differ until they are equated; argument counts clash.
+pub fn worked_cases() -> u8
+    ensures { λ _. ⌜ Worked-cases ⌝ }
 {
     0
 }

@@ -1,4 +1,4 @@
--- A term is a node, or joined to one, exactly when a node stands at its root.
+-- Each node written is among the equations stated.
 use mathlib.Core.Path.{_≡_, refl, sym, _∙_, ap, subst}
 use mathlib.Core.List.{List, [], _∷_}
 use mathlib.Core.Logic.{_↔_}
@@ -56,43 +56,3 @@ module _ {V : Type 0} where
   pub node-stated : (f : ℕ) (xs : List ℕ) (cs : List (Cell V)) (k : ℕ) → content-at cs k ≡ node f xs → In (is-node k f xs) (stated cs)
   unfolding stated
   node-stated f xs cs k e = subst (λ n. In (is-node n f xs) (stated-from 0 cs)) (zero-add k) (node-from f xs 0 cs k e)
-
-  module _ (cs : List (Cell V)) (ok : Solved cs) (i : ℕ) where
-    at-root : Entails (stated cs) i (root cs i)
-    at-root ρ s = reads-root ρ cs (ok .descends) (meets-reads ρ cs (s .meets) .joins) i
-
-    is-atom : (c : Content V) → content-at cs (root cs i) ≡ c → IsNode c → IsAtom (stated cs) i
-    is-atom variable e h = absurd h
-    is-atom (leaf v) e h = absurd h
-    is-atom (node f xs) e h =
-        let n = node-stated f xs cs (root cs i) e in ∣ (n .0, root cs i, f, xs, n .1, at-root) ∣₁
-
-    -- a root that is no node can be told apart from every node
-    unlike-node : (c : Content V) → content-at cs (root cs i) ≡ c → (IsNode c → ⊥) →
-        (k y f : ℕ) (ys : List ℕ) → nth (stated cs) k ≡ Some (is-node y f ys) → Entails (stated cs) i y → ⊥
-    unlike-node c e n k y f ys q h = go c e n
-      where
-        given : ℕ → Tree V
-        given j = constant (other f)
-
-        solves : Solves (stated cs) (reading cs given)
-        solves = reading-solves cs given ok (λ j. constant-is-tree (other f) (other-small f))
-
-        there : reading cs given i [] ≡ Some (Label.node f (length ys))
-        there = h (reading cs given) solves [] ∙ meets-nth (reading cs given) (stated cs) (solves .meets) k (is-node y f ys) q .0
-
-        go : (c : Content V) → content-at cs (root cs i) ≡ c → (IsNode c → ⊥) → ⊥
-        go variable e n = other-apart f (same-node V (other f) f 0 (length ys) (sym (label-is cs given i variable e) ∙ there) .0)
-        go (leaf v) e n = leaf-node v f (length ys) (sym (label-is cs given i (leaf v) e) ∙ there)
-        go (node g zs) e n = n tt
-
-    refuted : (c : Content V) → content-at cs (root cs i) ≡ c → (IsNode c → ⊥) → IsAtom (stated cs) i → ⊥
-    refuted c e n h = ∥∥₁-rec (λ x y. absurd x) (λ z. unlike-node c e n (z .0) (z .1) (z .2) (z .3) (z .4) (z .5)) h
-
-    is-node-then : (c : Content V) → content-at cs (root cs i) ≡ c → IsAtom (stated cs) i → IsNode c
-    is-node-then variable e h = refuted variable e (λ x. x) h
-    is-node-then (leaf v) e h = refuted (leaf v) e (λ x. x) h
-    is-node-then (node f xs) e h = tt
-
-    pub atoms : IsNode (content-at cs (root cs i)) ↔ IsAtom (stated cs) i
-    atoms = (is-atom (content-at cs (root cs i)) refl, is-node-then (content-at cs (root cs i)) refl)
