@@ -37,6 +37,7 @@ two-open = written [] (variable ∷ variable ∷ [])
 abbrev pub two-counts : List (Cell ℕ)
 two-counts = written [] (node 8 [] ∷ node 7 (0 ∷ []) ∷ node 7 (0 ∷ 0 ∷ []) ∷ [])
 
+-- what unifying and comparing say of them
 pub record Worked-cases : Type 0 where
   pub loops-are-equal : well (compare eqb loops 0 2) ≡ true
   pub open-cells-differ : well (compare eqb two-open 0 1) ≡ false

@@ -19,7 +19,8 @@ module _ {V : Type 0} where
   -- the cells have just the readings of the equations, and each of their nodes is one of the equations
   pub record Means (cells : List (Cell V)) (es : List (Equation V ℕ)) : Type 0 where
     pub readings : (ρ : ℕ → Tree V) → ((i : ℕ) → IsTree (ρ i)) → MeetsAll ρ (stated cells) ↔ MeetsAll ρ es
-    pub nodes : (i f : ℕ) (xs : List ℕ) → content-at cells i ≡ node f xs → (n : ℕ) × (nth es n ≡ Some (is-node i f xs))
+    pub nodes : (i f : ℕ) (xs : List ℕ) → content-at cells i ≡ node f xs →
+        (n : ℕ) × (nth es n ≡ Some (is-node i f xs))
 
   -- unifying goes well where some reading meets the new equation too, and then the cells mean it too
   abbrev pub Equated : List (Equation V ℕ) → Move V → Type 0
@@ -36,7 +37,8 @@ pub record Meaning-is-kept (V : Type 0) : Type 0 where
   pub none : Means {V = V} [] []
   pub written : (cells : List (Cell V)) (es : List (Equation V ℕ)) → Means cells es → (c : Content V) →
       Means (write cells c) (es ++ and-content (length cells) c [])
-  pub solvable : (cells : List (Cell V)) (es : List (Equation V ℕ)) → Solved cells → Means cells es → Solvable es
+  pub solvable : (cells : List (Cell V)) (es : List (Equation V ℕ)) → Solved cells → Means cells es →
+      Solvable es
   pub equated : (same : V → V → Bool) → Decides same → (cells : List (Cell V)) (es : List (Equation V ℕ)) →
       Solved cells → Means cells es → (a b : ℕ) → a < length cells → b < length cells →
       Equated (es ++ (equal a b ∷ [])) (unify same cells a b)

@@ -16,6 +16,7 @@ module _ {V : Type 0} where
   label-here (leaf v) given = Some (Label.leaf v)
   label-here (node f xs) given = Some (Label.node f (length xs))
 
+  -- the label that an argument has, where there is such an argument
   abbrev pub label-of-argument : Option ℕ → (ℕ → Option (Label V)) → Option (Label V)
   label-of-argument None go = None
   label-of-argument (Some x) go = go x
@@ -30,7 +31,8 @@ module _ {V : Type 0} where
   unfoldable pub reading : List (Cell V) → (ℕ → Tree V) → ℕ → Tree V
   reading cells given i [] = label-here (content-at cells (root cells i)) (given (root cells i) [])
   reading cells given i (k ∷ p) =
-      label-below (content-at cells (root cells i)) (given (root cells i) (k ∷ p)) k (λ x. reading cells given x p)
+      label-below (content-at cells (root cells i)) (given (root cells i) (k ∷ p)) k
+      (λ x. reading cells given x p)
 
   -- nothing was written into the cell, and it is joined to no other
   abbrev pub OpenRoot : List (Cell V) → ℕ → Type 0

@@ -1,4 +1,4 @@
--- What cells state, and the solved form, in which every join has been carried out to the end. Assumes nothing.
+-- What cells state, and the solved form, in which every join is carried out to the end. Assumes nothing.
 use mathlib.Core.Path.{_≡_}
 use mathlib.Core.List.{List, [], _∷_}
 use Prim.Native.Nat.{ℕ, suc, _<_, _≤_}

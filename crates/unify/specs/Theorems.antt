@@ -19,7 +19,8 @@ pub record Decides {V : Type 0} (same : V → V → Bool) : Type 0 where
 
 -- solved cells have a reading for every choice of trees at the open roots
 abbrev pub Solved-cells-have-readings : Type 0 → Type 0
-Solved-cells-have-readings V = (cells : List (Cell V)) → Solved cells → (given : ℕ → Tree V) → ((i : ℕ) → IsTree (given i)) →
+Solved-cells-have-readings V = (cells : List (Cell V)) → Solved cells →
+    (given : ℕ → Tree V) → ((i : ℕ) → IsTree (given i)) →
     (ρ : ℕ → Tree V) × Solves (stated cells) ρ × ((i : ℕ) → OpenRoot cells i → Same (ρ i) (given i))
 
 module _ {V : Type 0} where
@@ -32,18 +33,20 @@ module _ {V : Type 0} where
   abbrev pub Undone : List (Cell V) → State V → Type 0
   Undone cells s = clear (s .trail) (s .cells) ≡ cells
 
-  -- unifying went well: the cells are solved again, and their readings are the old ones that meet the new equation
+  -- unifying went well: the cells are solved, and their readings are the old ones that meet the new equation
   pub record Agreed (cells : List (Cell V)) (a b : ℕ) (s : State V) : Type 0 where
     pub solved : Solved (s .cells)
     pub contents : SameContents cells (s .cells)
     pub undone : Undone cells s
-    pub readings : (ρ : ℕ → Tree V) → MeetsAll ρ (stated (s .cells)) ↔ (MeetsAll ρ (stated cells) × Same (ρ a) (ρ b))
+    pub readings : (ρ : ℕ → Tree V) →
+        MeetsAll ρ (stated (s .cells)) ↔ (MeetsAll ρ (stated cells) × Same (ρ a) (ρ b))
 
   -- unifying met a clash: no reading meets the new equation
   pub record Refused (cells : List (Cell V)) (a b : ℕ) (s : State V) : Type 0 where
     pub undone : Undone cells s
     pub hopeless : (ρ : ℕ → Tree V) → MeetsAll ρ (stated cells) → Same (ρ a) (ρ b) → ⊥
 
+  -- what unifying comes to
   abbrev pub Unified : List (Cell V) → ℕ → ℕ → Move V → Type 0
   Unified cells a b (went s) = Agreed cells a b s
   Unified cells a b (clash s) = Refused cells a b s
@@ -60,6 +63,7 @@ module _ {V : Type 0} where
     pub solves : Solves (stated cells) ρ
     pub apart : Same (ρ a) (ρ b) → ⊥
 
+  -- what comparing comes to
   abbrev pub Compared : List (Cell V) → ℕ → ℕ → Move V → Type 0
   Compared cells a b (went s) = Equal cells a b s
   Compared cells a b (clash s) = Different cells a b s
@@ -70,11 +74,12 @@ module _ {V : Type 0} where
   IsNode (leaf v) = ⊥
   IsNode (node f xs) = Unit {0}
 
--- the unifier and the comparison are right on solved cells
+-- the unifier is right on solved cells
 abbrev pub Unify-is-right : (V : Type 0) → Type 0
 Unify-is-right V = (same : V → V → Bool) → Decides same → (cells : List (Cell V)) → Solved cells →
     (a b : ℕ) → a < length cells → b < length cells → Unified cells a b (unify same cells a b)
 
+-- so is the comparison
 abbrev pub Compare-is-right : (V : Type 0) → Type 0
 Compare-is-right V = (same : V → V → Bool) → Decides same → (cells : List (Cell V)) → Solved cells →
     (a b : ℕ) → a < length cells → b < length cells → Compared cells a b (compare same cells a b)

@@ -10,7 +10,7 @@ use Rattle.std.specs.declared.option.Option.{Option}
 use Rattle.std.specs.declared.option.Option.the-variants.{Some, None}
 use Rattle.unify.specs.Cells.{Content, variable, leaf, node, Cell, content-at, joined-at, rejoin, rank, root}
 
--- the cells, the cells joined so far in their order, and the place in that trail from which on arguments are owed
+-- the cells, the trail of those joined so far, and the place in it from which on arguments are owed
 pub record State (V : Type 0) : Type 0 where
   pub cells : List (Cell V)
   pub trail : List ℕ
@@ -22,12 +22,17 @@ pub data Move (V : Type 0) : Type 0 where
   clash : State V → Move V
 
 module _ {V : Type 0} where
+  -- nothing joined yet, nothing owed
   unfoldable pub start : List (Cell V) → State V
   start cells = record { cells = cells; trail = []; place = 0 }
 
   -- joins a root to another, and puts it on the trail
   unfoldable pub link : State V → ℕ → ℕ → State V
-  link s high low = record { cells = rejoin (s .cells) high (Some low); trail = s .trail ++ (high ∷ []); place = s .place }
+  link s high low = record {
+    cells = rejoin (s .cells) high (Some low);
+    trail = s .trail ++ (high ∷ []);
+    place = s .place;
+  }
 
   -- the first root has the lower rank, or not: joins the higher one to the lower
   unfoldable pub link-down : Bool → State V → ℕ → ℕ → State V
@@ -48,7 +53,7 @@ module _ {V : Type 0} where
   clear [] cells = cells
   clear (i ∷ trail) cells = rejoin (clear trail cells) i None
 
--- `open-joins` says whether an open root may be joined to another root, as in unifying, or meets only itself, as in comparing
+-- `open-joins`: an open root may be joined to another root, as in unifying, or meets only itself, as in comparing
 module _ {V : Type 0} (same : V → V → Bool) (open-joins : Bool) where
   -- whether two roots can be joined, by what stands at them
   unfoldable pub fits : Content V → Content V → Bool
@@ -72,7 +77,10 @@ module _ {V : Type 0} (same : V → V → Bool) (open-joins : Bool) where
 
   -- makes two cells have one root
   unfoldable pub meet : State V → ℕ → ℕ → Move V
-  meet s x y = meet-roots (eqb (root (s .cells) x) (root (s .cells) y)) s (root (s .cells) x) (root (s .cells) y)
+  meet s x y =
+      let r : ℕ = root (s .cells) x in
+      let t : ℕ = root (s .cells) y in
+      meet-roots (eqb r t) s r t
 
   -- the same for two lists of cells, from left to right
   unfoldable pub meet-all : State V → List ℕ → List ℕ → Move V
@@ -88,6 +96,7 @@ module _ {V : Type 0} (same : V → V → Bool) (open-joins : Bool) where
   meet-arguments s (node f xs) (leaf w) = went s
   meet-arguments s (node f xs) (node g ys) = meet-all s xs ys
 
+  -- the same for a cell and what it is joined to, if anything
   unfoldable pub pay-to : Option ℕ → State V → ℕ → Move V
   pay-to None s i = went s
   pay-to (Some j) s i = meet-arguments s (content-at (s .cells) i) (content-at (s .cells) j)

@@ -27,4 +27,5 @@ module _ {V : Type 0} where
 -- no cells are solved, and writing keeps them so
 pub record Writing-keeps-solved (V : Type 0) : Type 0 where
   pub none : Solved {V = V} []
-  pub one-more : (cells : List (Cell V)) → Solved cells → length cells < most → (c : Content V) → Writable cells c → Wrote cells c
+  pub one-more : (cells : List (Cell V)) → Solved cells → length cells < most →
+      (c : Content V) → Writable cells c → Wrote cells c

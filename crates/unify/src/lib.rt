@@ -1,4 +1,5 @@
-ghost use Rattle.unify.specs.Theorems.{Solved-cells-have-readings, Unify-is-right, Compare-is-right, Atoms-are-nodes};
+ghost use Rattle.unify.specs.Theorems.{Solved-cells-have-readings, Unify-is-right};
+ghost use Rattle.unify.specs.Theorems.{Compare-is-right, Atoms-are-nodes};
 ghost use Rattle.unify.specs.Meaning.{Meaning-is-kept};
 ghost use Rattle.unify.specs.Cases.{Worked-cases};
 ghost use Rattle.unify.specs.Writing.{Writing-keeps-solved};
@@ -19,14 +20,14 @@ pub fn solved_cells_have_readings<L: Leaf>() -> u8
     0
 }
 
-// The unifier agrees exactly when some reading gives the two terms one tree, and then leaves just those readings.
+// Where the unifier goes well just those readings are left that give the two terms one tree; where not there is none.
 pub fn unify_is_right<L: Leaf>() -> u8
     ensures { λ _. ⌜ Unify-is-right L ⌝ }
 {
     0
 }
 
-// The comparison says whether every reading gives the two terms one tree, and where not there is one that tells them apart.
+// The comparison says whether every reading gives the two terms one tree; where not, some reading tells them apart.
 pub fn compare_is_right<L: Leaf>() -> u8
     ensures { λ _. ⌜ Compare-is-right L ⌝ }
 {
@@ -48,7 +49,7 @@ pub fn meaning_is_kept<L: Leaf>() -> u8
     0
 }
 
-// Loops that unfold to the same tree are equal; open cells differ until they are equated; argument counts clash.
+// Loops with the same tree are equal; open cells differ until they are equated; argument counts clash.
 pub fn worked_cases() -> u8
     ensures { λ _. ⌜ Worked-cases ⌝ }
 {
