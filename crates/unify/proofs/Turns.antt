@@ -1,22 +1,65 @@
 -- The unifier's turns as a loop takes them: what is left to do stays the same from turn to turn.
 use mathlib.Core.Path.{_≡_, refl, sym, _∙_, ap, subst}
-use mathlib.Core.Bool.{Bool}
+use mathlib.Core.Bool.{Bool, true, false}
 use mathlib.Core.List.{List, [], _∷_, _++_}
 use Prim.Native.Nat.{ℕ, zero, suc, _+_, _-_, _<_, _≤_}
 use native.Mathlib.Omega.{arith}
 use lib.ListN.{length}
+use lib.Dec.{eqb, ltb}
 use Rattle.std.proofs.shelf.Maps.{nth-past}
+use Rattle.std.proofs.shelf.Tests.{eq-eqb, ne-eqb, lt-ltb, le-ltb}
 use Rattle.std.specs.Finite.{nth, All}
 use Rattle.std.specs.declared.option.Option.{Option}
 use Rattle.std.specs.declared.option.Option.the-variants.{Some, None}
-use Rattle.unify.specs.Cells.{Cell, unjoined, rejoin}
-use Rattle.unify.specs.Unify.{State, Move, went, clash, next, after, clear, pay, turn, settle, rest, meet-all, meet}
+use Rattle.unify.specs.Cells.{Cell, content-at, joined-at, rank, root, rejoin, unjoined}
+use Rattle.unify.specs.Unify.{State, Move, went, clash, link, link-down, next, after, fits, link-if, meet-roots, meet, pay, turn, settle, rest}
 use Rattle.unify.specs.Steady.{Steady, StaysSteady, reached}
 use Rattle.unify.proofs.Places.{nth-inside, nth-all}
-use Rattle.unify.proofs.Growth.{clear-last}
+use Rattle.unify.proofs.CellLaws.{unjoined-rejoin}
 use Rattle.unify.proofs.Steadiness.{pay-steady, next-steady}
 
+-- a cell that is joined to none leaves room on the trail
+pub room-for : {V : Type 0} (s : State V) → Steady s → (i : ℕ) → i < length (s .cells) → joined-at (s .cells) i ≡ None →
+    length (s .trail) < length (s .cells)
+room-for s st i h e =
+    let k : suc (unjoined (rejoin (s .cells) i (Some 0))) ≡ unjoined (s .cells) = unjoined-rejoin (s .cells) i 0 h e in
+    let m : unjoined (s .cells) + length (s .trail) ≤ length (s .cells) = st .room in omega arith
+
 module _ {V : Type 0} (same : V → V → Bool) (open-joins : Bool) where
+  -- the ways in which two cells meet, by their roots
+  module _ (s : State V) (x y r t : ℕ) (rx : r ≡ root (s .cells) x) (ty : t ≡ root (s .cells) y) where
+    at-roots : meet-roots same open-joins (eqb r t) s r t ≡ meet same open-joins s x y
+    unfolding meet
+    at-roots = λ i. meet-roots same open-joins (eqb (rx i) (ty i)) s (rx i) (ty i)
+
+    -- one root already
+    pub meet-same : r ≡ t → went s ≡ meet same open-joins s x y
+    unfolding meet-roots
+    meet-same e = ap (λ b. meet-roots same open-joins b s r t) (sym (eq-eqb r t e)) ∙ at-roots
+
+    fitting : (r ≡ t → ⊥) → (b : Bool) → fits same open-joins (content-at (s .cells) r) (content-at (s .cells) t) ≡ b →
+        link-if same open-joins b s r t ≡ meet same open-joins s x y
+    unfolding meet-roots
+    fitting n b e =
+        ap (λ b. link-if same open-joins b s r t) (sym e) ∙ (ap (λ b. meet-roots same open-joins b s r t) (sym (ne-eqb r t n)) ∙ at-roots)
+
+    -- roots that do not fit
+    pub meet-unfit : (r ≡ t → ⊥) → fits same open-joins (content-at (s .cells) r) (content-at (s .cells) t) ≡ false → clash s ≡ meet same open-joins s x y
+    unfolding link-if
+    meet-unfit n e = fitting n false e
+
+    -- the second root is the higher one
+    pub meet-up : (r ≡ t → ⊥) → fits same open-joins (content-at (s .cells) r) (content-at (s .cells) t) ≡ true →
+        rank (s .cells) r < rank (s .cells) t → went (link s t r) ≡ meet same open-joins s x y
+    unfolding link-if link-down
+    meet-up n e h = ap (λ b. went (link-down b s r t)) (sym (lt-ltb (rank (s .cells) r) (rank (s .cells) t) h)) ∙ fitting n true e
+
+    -- the first root is the higher one
+    pub meet-down : (r ≡ t → ⊥) → fits same open-joins (content-at (s .cells) r) (content-at (s .cells) t) ≡ true →
+        rank (s .cells) t ≤ rank (s .cells) r → went (link s r t) ≡ meet same open-joins s x y
+    unfolding link-if link-down
+    meet-down n e h = ap (λ b. went (link-down b s r t)) (sym (le-ltb (rank (s .cells) r) (rank (s .cells) t) h)) ∙ fitting n true e
+
   settle-done : (n : ℕ) (s : State V) → length (s .trail) ≤ s .place → settle same open-joins n s ≡ went s
   unfolding settle turn
   settle-done zero s h = refl
