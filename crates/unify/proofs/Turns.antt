@@ -2,6 +2,7 @@
 use mathlib.Core.Path.{_≡_, refl, sym, _∙_, ap, subst}
 use mathlib.Core.Bool.{Bool, true, false}
 use mathlib.Core.List.{List, [], _∷_, _++_}
+use mathlib.Core.Logic.{_⊎_, inl, inr}
 use Prim.Native.Nat.{ℕ, zero, suc, _+_, _-_, _<_, _≤_}
 use native.Mathlib.Omega.{arith}
 use lib.ListN.{length}
@@ -11,8 +12,8 @@ use Rattle.std.proofs.shelf.Tests.{eq-eqb, ne-eqb, lt-ltb, le-ltb}
 use Rattle.std.specs.Finite.{nth, All}
 use Rattle.std.specs.declared.option.Option.{Option}
 use Rattle.std.specs.declared.option.Option.the-variants.{Some, None}
-use Rattle.unify.specs.Cells.{Cell, content-at, joined-at, rank, root, rejoin, unjoined}
-use Rattle.unify.specs.Unify.{State, Move, went, clash, link, link-down, next, after, fits, link-if, meet-roots, meet, pay, turn, settle, rest}
+use Rattle.unify.specs.Cells.{Content, variable, leaf, node, Cell, content-at, joined-at, rank, root, rejoin, unjoined}
+use Rattle.unify.specs.Unify.{State, Move, went, clash, link, link-down, next, after, fits, link-if, meet-roots, meet, meet-all, meet-arguments, pay-to, pay, turn, settle, rest}
 use Rattle.unify.specs.Steady.{Steady, StaysSteady, reached}
 use Rattle.unify.proofs.Places.{nth-inside, nth-all}
 use Rattle.unify.proofs.CellLaws.{unjoined-rejoin}
@@ -59,6 +60,34 @@ module _ {V : Type 0} (same : V → V → Bool) (open-joins : Bool) where
         rank (s .cells) t ≤ rank (s .cells) r → went (link s r t) ≡ meet same open-joins s x y
     unfolding link-if link-down
     meet-down n e h = ap (λ b. went (link-down b s r t)) (sym (le-ltb (rank (s .cells) r) (rank (s .cells) t) h)) ∙ fitting n true e
+
+  -- two lists, pair by pair
+  pub all-went : (s t : State V) (x y : ℕ) (xs ys : List ℕ) → meet same open-joins s x y ≡ went t →
+      meet-all same open-joins s (x ∷ xs) (y ∷ ys) ≡ meet-all same open-joins t xs ys
+  unfolding meet-all after
+  all-went s t x y xs ys e = ap (λ m. after m (λ t. meet-all same open-joins t xs ys)) e
+
+  pub all-clash : (s t : State V) (x y : ℕ) (xs ys : List ℕ) → meet same open-joins s x y ≡ clash t →
+      meet-all same open-joins s (x ∷ xs) (y ∷ ys) ≡ clash t
+  unfolding meet-all after
+  all-clash s t x y xs ys e = ap (λ m. after m (λ t. meet-all same open-joins t xs ys)) e
+
+  -- to the end of the shorter list
+  pub all-done : (s : State V) (xs ys : List ℕ) → (xs ≡ []) ⊎ (ys ≡ []) → meet-all same open-joins s xs ys ≡ went s
+  unfolding meet-all
+  all-done s xs ys (inl e) = ap (λ l. meet-all same open-joins s l ys) e
+  all-done s [] ys (inr e) = refl
+  all-done s (x ∷ xs) ys (inr e) = ap (λ l. meet-all same open-joins s (x ∷ xs) l) e
+
+  -- what a trail's entry owes
+  pub pay-none : (s : State V) (i : ℕ) → joined-at (s .cells) i ≡ None → pay same open-joins s i ≡ went s
+  unfolding pay pay-to
+  pay-none s i e = ap (λ o. pay-to same open-joins o s i) e
+
+  pub pay-some : (s : State V) (i j : ℕ) (c d : Content V) → joined-at (s .cells) i ≡ Some j → content-at (s .cells) i ≡ c → content-at (s .cells) j ≡ d →
+      pay same open-joins s i ≡ meet-arguments same open-joins s c d
+  unfolding pay pay-to
+  pay-some s i j c d e p q = ap (λ o. pay-to same open-joins o s i) e ∙ (λ k. meet-arguments same open-joins s (p k) (q k))
 
   settle-done : (n : ℕ) (s : State V) → length (s .trail) ≤ s .place → settle same open-joins n s ≡ went s
   unfolding settle turn
