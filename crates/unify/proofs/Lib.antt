@@ -20,3 +20,4 @@ pub mod Turns
 pub mod Written
 pub mod Worked
 pub mod Meant
+pub mod OneProof

@@ -57,6 +57,15 @@ module _ {V : Type 0} where
   unfolding stated stated-from content-at
   none-means = record { readings = λ ρ t. (λ m. tt, λ m. tt); nodes = λ i f xs e. absurd (subst IsVariable e tt) }
 
+  -- a meaning goes by its readings and its nodes alone
+  alike : (cs : List (Cell V)) (es fs : List (Equation V ℕ)) → Means cs es →
+      ((ρ : ℕ → Tree V) → ((i : ℕ) → IsTree (ρ i)) → MeetsAll ρ es ↔ MeetsAll ρ fs) →
+      ((n i f : ℕ) (xs : List ℕ) → nth es n ≡ Some (is-node i f xs) → In (is-node i f xs) fs) → Means cs fs
+  alike cs es fs means e h = record {
+    readings = λ ρ t. (λ m. e ρ t .0 (means .readings ρ t .0 m), λ m. means .readings ρ t .1 (e ρ t .1 m));
+    nodes = λ i f xs q. let n = means .nodes i f xs q in h (n .0) i f xs (n .1);
+  }
+
   own-meaning : (cs : List (Cell V)) → Means cs (stated cs)
   own-meaning cs = record { readings = λ ρ t. (λ m. m, λ m. m); nodes = λ i f xs e. node-stated f xs cs i e }
 
@@ -173,6 +182,7 @@ module _ {V : Type 0} where
 pub meaning : (V : Type 0) → Meaning-is-kept V
 meaning V = record {
   none = none-means;
+  alike = alike;
   written = written-means;
   solvable = λ cs es ok means. solvable cs es means ok;
   equated = λ same law cs es ok means a b ha hb. equated cs es means a b (unify same cs a b) (unify-right same law cs ok a b ha hb);
