@@ -32,13 +32,15 @@ module _ {V : Type 0} where
   Entailed es a b (went s) = Entails es a b
   Entailed es a b (clash s) = Entails es a b → ⊥
 
--- Whatever equations cells mean: a meaning goes by readings and nodes alone, a new cell adds what was written,
--- there is a reading, unifying adds the new equation, comparing says what is entailed, roots say which terms are atoms.
+-- Whatever equations cells mean: a meaning goes by readings and nodes alone, and has a reading;
+-- a new cell adds what was written, and unifying the new equation; comparing says what is entailed;
+-- roots say which terms are atoms.
 pub record Meaning-is-kept (V : Type 0) : Type 0 where
   pub none : Means {V = V} [] []
   pub alike : (cells : List (Cell V)) (es fs : List (Equation V ℕ)) → Means cells es →
       ((ρ : ℕ → Tree V) → ((i : ℕ) → IsTree (ρ i)) → MeetsAll ρ es ↔ MeetsAll ρ fs) →
-      ((n i f : ℕ) (xs : List ℕ) → nth es n ≡ Some (is-node i f xs) → (m : ℕ) × (nth fs m ≡ Some (is-node i f xs))) →
+      ((n i f : ℕ) (xs : List ℕ) → nth es n ≡ Some (is-node i f xs) →
+      (m : ℕ) × (nth fs m ≡ Some (is-node i f xs))) →
       Means cells fs
   pub written : (cells : List (Cell V)) (es : List (Equation V ℕ)) → Means cells es → (c : Content V) →
       Means (write cells c) (es ++ and-content (length cells) c [])

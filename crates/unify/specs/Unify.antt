@@ -53,7 +53,7 @@ module _ {V : Type 0} where
   clear [] cells = cells
   clear (i ∷ trail) cells = rejoin (clear trail cells) i None
 
--- `open-joins`: an open root may be joined to another root, as in unifying, or meets only itself, as in comparing
+-- `open-joins`: in unifying an open root may be joined to another root, in comparing it meets only itself
 module _ {V : Type 0} (same : V → V → Bool) (open-joins : Bool) where
   -- whether two roots can be joined, by what stands at them
   unfoldable pub fits : Content V → Content V → Bool

@@ -20,14 +20,14 @@ pub fn solved_cells_have_readings<L: Leaf>() -> u8
     0
 }
 
-// Where the unifier goes well just those readings are left that give the two terms one tree; where not there is none.
+// Where the unifier goes well, just the readings that give the two terms one tree are left; else there are none.
 pub fn unify_is_right<L: Leaf>() -> u8
     ensures { λ _. ⌜ Unify-is-right L ⌝ }
 {
     0
 }
 
-// The comparison says whether every reading gives the two terms one tree; where not, some reading tells them apart.
+// The comparison says whether every reading gives the two terms one tree; if not, one tells them apart.
 pub fn compare_is_right<L: Leaf>() -> u8
     ensures { λ _. ⌜ Compare-is-right L ⌝ }
 {
