@@ -1,0 +1,9 @@
+pub mod Cells
+pub mod Solved
+pub mod Readings
+pub mod Unify
+pub mod Steady
+pub mod Writing
+pub mod Theorems
+pub mod Meaning
+pub mod Cases
