@@ -1,31 +1,22 @@
 -- One entry read off the front of a book's bytes.
-use mathlib.Core.Path.{_≡_, refl, sym, subst, ap, _∙_}
-use mathlib.Core.List.{List, [], _∷_}
+use mathlib.Core.Path.{_≡_, sym, ap, _∙_}
+use mathlib.Core.List.{List}
 use Prim.Native.Nat.{ℕ, suc, _+_, _-_, _<_, _≤_}
 use native.Mathlib.Omega.{arith}
 use denote.Ref.{now}
 use lib.ListN.{length}
 use Rattle.std.specs.declared.option.Option.{Option}
-use Rattle.std.specs.declared.option.Option.the-variants.{Some}
 use Rattle.std.specs.declared.result.Result.{Result}
 use Rattle.std.specs.declared.result.Result.the-variants.{Ok, Err}
-use Rattle.theory.specs.Entries.{Part, cofact}
-use Rattle.form.specs.declared.fault.Cause.the-variants.{WrongGoals}
+use Rattle.std.specs.Vec.{made}
 use Rattle.form.specs.declared.fault.Fault.{Fault}
 use Rattle.form.specs.Fields.{Field, after-field, first-field}
-use Rattle.form.specs.Meanings.{Found, closed, complete, entry, entry-kind, fault, found, next-place, on-found, row-fault, row-of}
+use Rattle.form.specs.Meanings.{Found, entry, entry-kind, fault, found, next-place, on-found, row-of}
 use Rattle.form.proofs.Steps.{row-whole}
-use Rattle.wire.specs.declared.contents.EntryStep.{EntryStep}
-use Rattle.wire.specs.declared.contents.ReadEntry.{ReadEntry}
+use Rattle.wire.specs.declared.contents.GoodEntry.{GoodEntry}
 use Rattle.wire.specs.declared.field.Split.{Split}
-use Rattle.wire.specs.Reads.{RowStep, SplitOf, entry-read}
+use Rattle.wire.specs.Reads.{FoundAs, RowStep, SplitOf, entry-with}
 use Rattle.wire.proofs.FirstFields.{lengths}
-
--- a co-fact with a body is a fault
-pub cofact-body : {V : Type 0} (place n : ℕ) (ps : List (Part V)) (head : ℕ) (body : List ℕ) → 0 < length body →
-  closed cofact place n (complete ps head body) ≡ fault (row-fault WrongGoals place n)
-cofact-body place n ps head [] h = absurd (omega arith)
-cofact-body place n ps head (b ∷ body) h = refl
 
 module _ (bs : List ℕ) (s : Split) (of : SplitOf bs s) where
   same-field : _≡_ {A = Field} (first-field bs) (record { tag = s .tag; contents = now (s .contents) })
@@ -52,15 +43,16 @@ module _ (bs : List ℕ) (s : Split) (of : SplitOf bs s) where
         ∙ ap (λ k. on-found x (row-of wide reading (place + (length bs - length (now (s .rest)))) k (after-field bs))) more
         ∙ ap (λ xs. on-found x (row-of wide reading (place + (length bs - length (now (s .rest)))) (n + 1) xs)) (sym (of .rest))
 
-    -- a field that holds an entry
-    pub row-goes : (e : ReadEntry V) →
-      found wide reading place n (record { tag = s .tag; contents = now (s .contents) }) (entry-kind (s .tag)) ≡ entry (entry-read e) →
-      row-of wide reading place n bs
-      ≡ on-found (entry (entry-read e)) (row-of wide reading (place + (length bs - length (now (s .rest)))) (n + 1) (now (s .rest)))
-    row-goes e h = after-found (entry (entry-read e)) h
-
-    -- a field with a fault
-    pub row-wrong : (f : Fault) →
-      found wide reading place n (record { tag = s .tag; contents = now (s .contents) }) (entry-kind (s .tag)) ≡ fault f →
-      (r : Result (EntryStep V) Fault) → ((y : Fault) × (r ≡ Err y) × (y ≡ f)) → RowStep wide reading place n bs r
-    row-wrong f h r p = subst (RowStep wide reading place n bs) (sym (p .1 ∙ ap Err (p .2))) (after-found (fault f) h)
+    -- what was found in the field is what the row comes to
+    pub row-step : (r : Result GoodEntry Fault) → FoundAs wide reading place n s r →
+      made r (λ e. length (now (e .left)) < length bs) × RowStep wide reading place n bs r
+    row-step (Ok e) h =
+        let left : now (e .left) ≡ now (s .rest) = h .2 in
+        let long = lengths bs s of in
+        let size : length (now (e .contents)) ≡ length (first-field bs .contents) = ap length (h .1 ∙ of .contents) in
+        (omega (arith, ap length left, long),
+          (h .3 .0, h .3 .1,
+            after-found (entry (entry-with (h .3 .0) e)) (h .3 .2)
+            ∙ ap (λ (xs : List ℕ). on-found (entry (entry-with (h .3 .0) e)) (row-of wide reading (place + (length bs - length xs)) (n + 1) xs)) (sym left),
+            omega (arith, h .0, size, long)))
+    row-step (Err f) h = (tt, after-found (fault f) h)

@@ -1,6 +1,7 @@
 -- One field read off the front of an entry's contents.
 use mathlib.Core.Path.{_≡_, refl, sym, subst, ap, _∙_}
-use mathlib.Core.List.{List, [], _∷_, _++_, map}
+use mathlib.Core.Bool.{Bool}
+use mathlib.Core.List.{List, [], _∷_, _++_}
 use Prim.Native.Nat.{ℕ, _+_, _-_, _<_, _≤_, min}
 use native.Mathlib.Omega.{arith}
 use denote.Ref.{now}
@@ -16,7 +17,7 @@ use Rattle.book.specs.declared.entry.EntryCell.{EntryCell}
 use Rattle.form.specs.declared.fault.Cause.{Cause}
 use Rattle.form.specs.declared.fault.Cause.the-variants.{WrongGoals}
 use Rattle.form.specs.declared.fault.Fault.{Fault}
-use Rattle.form.specs.Fields.{after-field, cut, first-field, size}
+use Rattle.form.specs.Fields.{Field, after-field, cut, first-field, size}
 use Rattle.form.specs.Meanings.{Ending, bad, complete, cell, ending-of, goals, goals-end, inner-fault, next-place, on-seen, seen, shape, wrong}
 use Rattle.form.proofs.Steps.{ending-whole, goals-last, goals-more}
 use Rattle.wire.specs.declared.contents.Step.{Step}
@@ -24,6 +25,7 @@ use Rattle.wire.specs.declared.field.Split.{Split}
 use Rattle.wire.specs.declared.item.Goals.{Goals as GoalsRead}
 use Rattle.wire.specs.declared.item.Item.{Item}
 use Rattle.wire.specs.declared.item.Item.the-variants.{Cell, Goals}
+use Rattle.wire.specs.Marks.{marks-of, node-part}
 use Rattle.wire.specs.Reads.{GoesOn, ItemMeans, SplitOf, StepMeans}
 use Rattle.wire.proofs.Seen.{cell-room}
 
@@ -79,35 +81,47 @@ module _ (bs : List ℕ) (s : Split) (of : SplitOf bs s) where
         subst (StepMeans wide reading ps place n bs) (sym (p .1 ∙ ap Err (p .2)))
         (after-seen (wrong (f .cause)) (m .0) ∙ ap (bad (f .cause)) (sym at), m .1 ∙ ap (λ q. inner-fault (f .cause) q n) (sym at))
 
-module _ {V : Type 0} (wide : ℕ) (reading : List ℕ → Option V) (held : List (EntryCell V)) (place : ℕ) (bs left : List ℕ) where
-  -- a cell that was read and kept
-  pub keeps-cell : (item : Item V) (x y : EntryCell V) (all : List (EntryCell V)) → GoesOn wide reading (map part-of held) place bs item left →
-    item ≡ Cell x → y ≡ x → (length held < 64 → all ≡ held ++ y ∷ []) →
-    ending-of wide reading (map part-of held) place bs
-    ≡ ending-of wide reading (map part-of all) (place + (length bs - length left)) left
-  keeps-cell item x y all goes is same pushed =
-      let g : GoesOn wide reading (map part-of held) place bs (Cell x) left = subst (λ i. GoesOn wide reading (map part-of held) place bs i left) is goes in
-      let n : length held < 64 = omega (arith, g .0, length-map held part-of) in
-      let parts : map part-of held ++ part-of x ∷ [] ≡ map part-of all =
-        ap (λ z. map part-of held ++ part-of z ∷ []) (sym same) ∙ sym (map-push part-of held y) ∙ ap (map part-of) (sym (pushed n)) in
-      g .1 ∙ ap (λ ps. ending-of wide reading ps (place + (length bs - length left)) left) parts
+module _ {V : Type 0} (wide : ℕ) (reading : List ℕ → Option V) (ps : List (Part V)) (place : ℕ) (bs left : List ℕ) (item : Item V)
+  (goes : GoesOn wide reading ps place bs item left) where
+  -- a cell that was read, and marked as it is
+  module _ (x : EntryCell V) (is : item ≡ Cell x) where
+    to-cell : GoesOn wide reading ps place bs (Cell x) left
+    to-cell = subst (λ i. GoesOn wide reading ps place bs i left) is goes
+
+    pub goes-to : ending-of wide reading ps place bs
+      ≡ ending-of wide reading (ps ++ part-of x ∷ []) (place + (length bs - length left)) left
+    goes-to = to-cell .1
+
+    pub marks-cell : (marks all : List Bool) (b : Bool) → marks-of ps ≡ marks → b ≡ node-part (part-of x) →
+      (length marks < 64 → all ≡ marks ++ b ∷ []) → marks-of (ps ++ part-of x ∷ []) ≡ all
+    marks-cell marks all b m t pushed =
+        let n : length marks < 64 = omega (arith, to-cell .0, length-map ps node-part, ap length m) in
+        map-push node-part ps (part-of x) ∙ ap (λ ms. ms ++ node-part (part-of x) ∷ []) m ∙ ap (λ c. marks ++ c ∷ []) (sym t) ∙ sym (pushed n)
 
   -- goals that were read
-  module _ (item : Item V) (g : GoalsRead) (goes : GoesOn wide reading (map part-of held) place bs item left) (is : item ≡ Goals g) where
-    to-goals : GoesOn wide reading (map part-of held) place bs (Goals g) left
-    to-goals = subst (λ i. GoesOn wide reading (map part-of held) place bs i left) is goes
+  module _ (g : GoalsRead) (is : item ≡ Goals g) where
+    to-goals : GoesOn wide reading ps place bs (Goals g) left
+    to-goals = subst (λ i. GoesOn wide reading ps place bs i left) is goes
 
-    pub ends-complete : length left ≡ 0 →
-      ending-of wide reading (map part-of held) place bs ≡ complete (map part-of held) (g .head) (listed (g .body))
+    pub ends-complete : length left ≡ 0 → ending-of wide reading ps place bs ≡ complete ps (g .head) (listed (g .body))
     ends-complete none =
         let after = place + (length bs - length left) in
         to-goals
-        ∙ ap (λ xs. goals-end (map part-of held) (g .head) (listed (g .body)) after (cut xs .fields) (cut xs .left)) (nil-from-length left none)
-        ∙ goals-last (map part-of held) (g .head) (listed (g .body)) after
+        ∙ ap (λ xs. goals-end ps (g .head) (listed (g .body)) after (cut xs .fields) (cut xs .left)) (nil-from-length left none)
+        ∙ goals-last ps (g .head) (listed (g .body)) after
 
-    pub ends-more : 0 < length left →
-      ending-of wide reading (map part-of held) place bs ≡ bad WrongGoals (place + (length bs - length left))
-    ends-more some = to-goals ∙ goals-more (map part-of held) (g .head) (listed (g .body)) (place + (length bs - length left)) left some
+    pub ends-more : 0 < length left → ending-of wide reading ps place bs ≡ bad WrongGoals (place + (length bs - length left))
+    ends-more some = to-goals ∙ goals-more ps (g .head) (listed (g .body)) (place + (length bs - length left)) left some
+
+    -- whatever complete entry the contents come to, its cells are those read
+    pub ends-with : (qs : List (Part V)) (h : ℕ) (b : List ℕ) → ending-of wide reading ps place bs ≡ complete qs h b → ps ≡ qs
+    ends-with qs h b e = only (cut left .fields) (cut left .left) (sym to-goals ∙ e)
+      where
+        only : (fs : List Field) (xs : List ℕ) →
+          goals-end ps (g .head) (listed (g .body)) (place + (length bs - length left)) fs xs ≡ complete qs h b → ps ≡ qs
+        only [] [] f = cc
+        only [] (x ∷ xs) f = let z : _≡_ {A = ℕ} 0 1 = cc in absurd (omega arith)
+        only (x ∷ fs) xs f = let z : _≡_ {A = ℕ} 0 1 = cc in absurd (omega arith)
 
 -- a fault that was made ends the contents as it says
 pub ends-badly : {V : Type 0} (e : Ending V) (x : Fault) (k : Cause) (p n : ℕ) → x ≡ inner-fault k p n → e ≡ bad k p →

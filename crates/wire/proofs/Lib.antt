@@ -1,4 +1,5 @@
 pub mod Every
+pub mod FaultsFound
 pub mod FirstEntries
 pub mod FirstFields
 pub mod Items

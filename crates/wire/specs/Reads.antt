@@ -7,17 +7,16 @@ use denote.Ref.{now}
 use lib.ListN.{length, getD, take, drop}
 use Rattle.std.specs.declared.option.Option.{Option}
 use Rattle.std.specs.declared.option.Option.the-variants.{Some, None}
-use Rattle.theory.specs.Entries.{Entry, Part}
+use Rattle.theory.specs.Entries.{BodyRule, Entry, Kind, Part, clause, cofact}
 use Rattle.form.specs.Fields.{whole, first-field, after-field, cut}
+use Rattle.form.specs.declared.fault.Cause.the-variants.{WrongGoals}
 use Rattle.form.specs.declared.fault.Fault.{Fault}
-use Rattle.form.specs.Meanings.{Ending, Found, entry, fault, on-found, row-of, Seen, bad, complete, unended, ending-of, goals-end, cell, goals, inner-fault, wrong, shape, variable-field, leaf-field, node-field, goals-field}
+use Rattle.form.specs.Meanings.{Ending, entry, entry-kind, fault, found, row-fault, on-found, row-of, Seen, bad, complete, unended, ending-of, goals-end, cell, goals, inner-fault, wrong, shape, variable-field, leaf-field, node-field, goals-field}
 use Rattle.std.specs.declared.result.Result.{Result}
 use Rattle.std.specs.declared.result.Result.the-variants.{Ok, Err}
 use Rattle.book.specs.Answers.{kind-of, listed, part-of}
-use Rattle.wire.specs.declared.cells.Cells.{Cells}
-use Rattle.wire.specs.declared.contents.Contents.{Contents}
-use Rattle.wire.specs.declared.contents.EntryStep.{EntryStep}
-use Rattle.wire.specs.declared.contents.ReadEntry.{ReadEntry}
+use Rattle.wire.specs.declared.contents.GoodEntry.{GoodEntry}
+use Rattle.wire.specs.declared.item.Goals.{Goals as GoalsRead}
 use Rattle.wire.specs.declared.contents.Step.{Step}
 use Rattle.wire.specs.declared.item.Item.{Item}
 use Rattle.wire.specs.declared.item.Item.the-variants.{Cell, Goals}
@@ -50,14 +49,26 @@ ItemMeans place n s (Ok (Cell c)) = s ≡ cell (part-of c)
 ItemMeans place n s (Ok (Goals g)) = s ≡ goals (g .head) (listed (g .body))
 ItemMeans place n s (Err f) = (s ≡ wrong (f .cause)) × (f ≡ inner-fault (f .cause) place n)
 
--- the cells held, as parts of an entry
-abbrev pub held-parts : {V : Type 0} → Cells V → List (Part V)
-held-parts cs = map part-of (take (cs .count) (cs .list))
+-- how the contents of an entry with the cells ps ended: with goals or without
+abbrev pub ending-read : {V : Type 0} → List (Part V) → Option GoalsRead → Ending V
+ending-read ps None = unended
+ending-read ps (Some g) = complete ps (g .head) (listed (g .body))
 
--- how the contents that were read end
-abbrev pub ending-read : {V : Type 0} → Option (Contents V) → Ending V
-ending-read None = unended
-ending-read (Some c) = complete (held-parts (c .cells)) (c .goals .head) (listed (c .goals .body))
+-- an entry of that kind may not end so: without goals, or as a co-fact with a body
+abbrev pub Unallowed : Kind → Option GoalsRead → Type 0
+Unallowed k None = Unit {0}
+Unallowed clause (Some g) = ⊥
+Unallowed cofact (Some g) = 0 < length (listed (g .body))
+
+-- goals were allowed as an entry's end, whatever its cells, or the fault at it was named
+abbrev pub ClosedAs : Kind → ℕ → ℕ → Option GoalsRead → Result GoalsRead Fault → Type 0
+ClosedAs k place n o (Ok g) = (o ≡ Some g) × BodyRule k (listed (g .body))
+ClosedAs k place n o (Err f) = (f ≡ row-fault WrongGoals place n) × Unallowed k o
+
+-- the good entry, with the cells ps
+abbrev pub entry-with : {V : Type 0} → List (Part V) → GoodEntry → Entry V
+entry-with ps e =
+    record { kind = kind-of (e .kind); parts = ps; head = e .goals .head; body = listed (e .goals .body) }
 
 module _ {V : Type 0} (wide : ℕ) (reading : List ℕ → Option V) where
   -- after a field the contents go on with one cell more, or end with the goals, and left is what follows the field
@@ -70,35 +81,32 @@ module _ {V : Type 0} (wide : ℕ) (reading : List ℕ → Option V) where
 
   -- one step through the contents of an entry
   abbrev pub StepMeans : List (Part V) → ℕ → ℕ → List ℕ → Result (Step V) Fault → Type 0
-  StepMeans ps place n bs (Ok s) = (length (now (s .left)) < length bs) × GoesOn ps place bs (s .item) (now (s .left))
+  StepMeans ps place n bs (Ok s) = GoesOn ps place bs (s .item) (now (s .left))
   StepMeans ps place n bs (Err f) =
       (ending-of wide reading ps place bs ≡ bad (f .cause) (f .place)) × (f ≡ inner-fault (f .cause) (f .place) n)
 
-  -- how the contents of an entry were read: complete, without goals, or with a fault
-  abbrev pub ContentsMean : ℕ → ℕ → List ℕ → Result (Option (Contents V)) Fault → Type 0
-  ContentsMean place n bs (Ok o) = ending-of wide reading [] place bs ≡ ending-read o
+  -- how the contents of an entry were found to end, with some cells: with goals, without, or with a fault
+  abbrev pub ContentsMean : ℕ → ℕ → List ℕ → Result (Option GoalsRead) Fault → Type 0
+  ContentsMean place n bs (Ok o) = (ps : List (Part V)) × (ending-of wide reading [] place bs ≡ ending-read ps o)
   ContentsMean place n bs (Err f) =
       (ending-of wide reading [] place bs ≡ bad (f .cause) (f .place)) × (f ≡ inner-fault (f .cause) (f .place) n)
 
--- the entry that was read
-abbrev pub entry-read : {V : Type 0} → ReadEntry V → Entry V
-entry-read e =
-    record {
-      kind = kind-of (e .kind);
-      parts = held-parts (e .contents .cells);
-      head = e .contents .goals .head;
-      body = listed (e .contents .goals .body)
-    }
+  -- a field of the row was found good, with some cells that its contents come to, or as the fault in it
+  abbrev pub FoundAs : ℕ → ℕ → Split → Result GoodEntry Fault → Type 0
+  FoundAs place n s (Ok e) =
+      (e .place ≡ place + 3) × (now (e .contents) ≡ now (s .contents)) × (now (e .left) ≡ now (s .rest))
+      × ((ps : List (Part V))
+        × (ending-of wide reading [] (e .place) (now (e .contents)) ≡ complete ps (e .goals .head) (listed (e .goals .body)))
+        × (found wide reading place n (record { tag = s .tag; contents = now (s .contents) }) (entry-kind (s .tag)) ≡ entry (entry-with ps e)))
+  FoundAs place n s (Err f) =
+      found wide reading place n (record { tag = s .tag; contents = now (s .contents) }) (entry-kind (s .tag)) ≡ fault f
 
--- a field of the row was read as the entry that it is, or as the fault in it
-abbrev pub EntryMeans : {V : Type 0} → Found V → Result (ReadEntry V) Fault → Type 0
-EntryMeans x (Ok e) = x ≡ entry (entry-read e)
-EntryMeans x (Err f) = x ≡ fault f
-
--- an entry was read off the front of a book's bytes bs, the n-th; left is what follows it
-abbrev pub RowStep : {V : Type 0} → ℕ → (List ℕ → Option V) → ℕ → ℕ → List ℕ → Result (EntryStep V) Fault → Type 0
-RowStep wide reading place n bs (Ok s) =
-    (length (now (s .left)) < length bs)
-    × (row-of wide reading place n bs
-      ≡ on-found (entry (entry-read (s .entry))) (row-of wide reading (place + (length bs - length (now (s .left)))) (n + 1) (now (s .left))))
-RowStep wide reading place n bs (Err f) = row-of wide reading place n bs ≡ record { entries = []; first-fault = Some f }
+  -- an entry with some cells was found off the front of a book's bytes bs, the n-th, or a fault
+  abbrev pub RowStep : ℕ → ℕ → List ℕ → Result GoodEntry Fault → Type 0
+  RowStep place n bs (Ok e) =
+      (ps : List (Part V))
+      × (ending-of wide reading [] (e .place) (now (e .contents)) ≡ complete ps (e .goals .head) (listed (e .goals .body)))
+      × (row-of wide reading place n bs
+        ≡ on-found (entry (entry-with ps e)) (row-of wide reading (place + (length bs - length (now (e .left)))) (n + 1) (now (e .left))))
+      × (e .place + length (now (e .contents)) ≤ place + length bs)
+  RowStep place n bs (Err f) = row-of wide reading place n bs ≡ record { entries = []; first-fault = Some f }

@@ -1,5 +1,4 @@
 use book::entry::EntryKind;
-use crate::cells::Cells;
 use crate::item::Goals;
 use crate::item::Item;
 use crate::item::ItemClone;
@@ -11,23 +10,12 @@ pub struct Step<'a, L> {
     pub left: &'a [u8],
 }
 
-// What a complete entry holds: its cells, and its head and body goals.
-#[derive(Drop)]
-pub struct Contents<L> {
-    pub cells: Cells<L>,
-    pub goals: Goals,
-}
-
-// An entry that was read: its kind and what it holds.
-#[derive(Drop)]
-pub struct ReadEntry<L> {
+// An entry that was tested and found good: its kind, its goals, its bytes with their place, and the bytes that follow it.
+#[derive(Clone, Copy)]
+pub struct GoodEntry<'a> {
     pub kind: EntryKind,
-    pub contents: Contents<L>,
-}
-
-// One entry of a book, read, and the bytes that follow it.
-#[derive(Drop)]
-pub struct EntryStep<'a, L> {
-    pub entry: ReadEntry<L>,
+    pub goals: Goals,
+    pub place: usize,
+    pub contents: &'a [u8],
     pub left: &'a [u8],
 }

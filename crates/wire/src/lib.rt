@@ -1,10 +1,11 @@
 // Books as bytes: reading, inspecting, writing and listing them.
-pub mod cells;
 pub mod contents;
 pub mod decode;
 pub mod faults;
 pub mod field;
+pub mod inspect;
 pub mod item;
+pub mod nodes;
 pub mod read_contents;
 pub mod read_entry;
 pub mod read_field;

@@ -1,23 +1,23 @@
-// One entry of a book.
+// One entry of a book, tested.
 ghost use mathlib.Core.Path.{_≡_};
+ghost use mathlib.Core.List.{List};
 ghost use Prim.Native.Nat.{_+_, _<_, _≤_};
 ghost use lib.ListN.{length};
 ghost use Rattle.std.specs.Options.{mapped};
+ghost use Rattle.std.specs.Vec.{made};
+ghost use Rattle.theory.specs.Entries.{Part};
 ghost use Rattle.book.specs.Answers.{kind-of};
-ghost use Rattle.form.specs.Fields.{Field};
-ghost use Rattle.form.specs.Meanings.{closed, entry-kind, found};
-ghost use Rattle.wire.specs.Reads.{EntryMeans, RowStep, ending-read};
+ghost use Rattle.form.specs.Meanings.{closed, entry-kind};
+ghost use Rattle.wire.specs.Reads.{ClosedAs, FoundAs, RowStep, ending-read};
 use book::entry::EntryKind;
 use form::fault::Cause;
 use form::fault::Fault;
-use leaf::kind::Leaf;
 use leaf::kind::WireLeaf;
-use crate::contents::Contents;
-use crate::contents::EntryStep;
-use crate::contents::ReadEntry;
+use crate::contents::GoodEntry;
 use crate::faults::in_row;
 use crate::field::Split;
-use crate::read_contents::read_contents;
+use crate::item::Goals;
+use crate::read_contents::test_contents;
 use crate::split::split;
 
 // The kind of entry that the tag stands for.
@@ -31,28 +31,28 @@ fn kind_of(tag: u8) -> Option<EntryKind>
     }
 }
 
-// The entry, if its contents ended with goals and it may have their body.
-fn close<L: Leaf>(kind: EntryKind, contents: Option<Contents<L>>, place: usize, entry: usize) -> Result<ReadEntry<L>, Fault>
-    ensures { λ r. ⌜ EntryMeans (closed (kind-of kind) place «entry» (ending-read contents)) r ⌝ }
+// The goals of an entry, if its contents ended with some and it may have their body.
+fn close(kind: EntryKind, goals: Option<Goals>, place: usize, entry: usize) -> Result<Goals, Fault>
+    ensures { λ r. ⌜ ClosedAs (kind-of kind) place «entry» goals r ⌝ }
 {
-    let Some(contents) = contents else {
+    let Some(goals) = goals else {
         return Err(in_row(Cause::WrongGoals, place, entry));
     };
     match kind {
-        EntryKind::Clause => Ok(ReadEntry { kind, contents }),
+        EntryKind::Clause => Ok(goals),
         EntryKind::CoFact => {
-            if contents.goals.body.len > 0 {
+            if goals.body.len > 0 {
                 return Err(in_row(Cause::WrongGoals, place, entry));
             }
-            Ok(ReadEntry { kind, contents })
+            Ok(goals)
         }
     }
 }
 
-// Reads a field of the book's row as an entry.
-fn read_entry<L: WireLeaf>(field: &Split<'_>, place: usize, entry: usize) -> Result<ReadEntry<L>, Fault>
+// Tests a field of the book's row as an entry.
+fn test_entry<'a, L: WireLeaf>(field: &Split<'a>, place: usize, entry: usize) -> Result<GoodEntry<'a>, Fault>
     requires { ⌜ place + (3 + length (now (now field .contents))) ≤ 65535 ⌝ }
-    ensures { λ r. ⌜ EntryMeans (found (L·WireLeaf .wide) (L·WireLeaf .reading) place «entry» (record { tag = now (field .entry) .tag; contents = now (now (field .entry) .contents) }) (entry-kind (now (field .entry) .tag))) r ⌝ }
+    ensures { λ r. ⌜ FoundAs (L·WireLeaf .wide) (L·WireLeaf .reading) place «entry» (now (field .entry)) r ⌝ }
 {
     let Some(kind) = kind_of(field.tag) else {
         return Err(in_row(Cause::WrongTag, place, entry));
@@ -60,20 +60,20 @@ fn read_entry<L: WireLeaf>(field: &Split<'_>, place: usize, entry: usize) -> Res
     if entry >= 1024 {
         return Err(in_row(Cause::TooMuch, place, entry));
     }
-    let contents = read_contents::<L>(field.contents, place + 3, entry)?;
-    close(kind, contents, place, entry)
+    let contents = field.contents;
+    let goals = test_contents::<L>(contents, place + 3, entry)?;
+    let goals = close(kind, goals, place, entry)?;
+    Ok(GoodEntry { kind, goals, place: place + 3, contents, left: field.rest })
 }
 
-// Reads the entry that the bytes begin with.
-pub fn next_entry<'a, L: WireLeaf>(rest: &'a [u8], place: usize, entry: usize) -> Result<EntryStep<'a, L>, Fault>
+// Tests the entry that the bytes begin with.
+pub fn next_entry<'a, L: WireLeaf>(rest: &'a [u8], place: usize, entry: usize) -> Result<GoodEntry<'a>, Fault>
     requires { ⌜ 0 < length (now rest) ⌝ ∗ ⌜ place + length (now rest) ≤ 65535 ⌝ }
-    ensures { λ r. ⌜ RowStep (L·WireLeaf .wide) (L·WireLeaf .reading) place «entry» (now (rest .entry)) r ⌝ }
+    ensures shorter { λ r. ⌜ made r (λ e. length (now (e .left)) < length (now (rest .entry))) ⌝ }
+    ensures means { λ r. ⌜ RowStep (L·WireLeaf .wide) (L·WireLeaf .reading) place «entry» (now (rest .entry)) r ⌝ }
 {
     match split(rest) {
-        Some(field) => {
-            let read = read_entry(&field, place, entry)?;
-            Ok(EntryStep { entry: read, left: field.rest })
-        }
+        Some(field) => test_entry::<L>(&field, place, entry),
         None => Err(in_row(Cause::PastEnd, place, entry)),
     }
 }

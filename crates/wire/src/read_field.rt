@@ -1,26 +1,24 @@
 // One field of an entry: tested, and read as a cell or as the goals.
 ghost use mathlib.Core.Path.{_≡_};
-ghost use mathlib.Core.List.{[], _∷_, _++_, map};
-ghost use mathlib.Core.Bool.{Bool, true, false};
+ghost use mathlib.Core.List.{List, _∷_};
+ghost use mathlib.Core.Bool.{true, false};
 ghost use Prim.Native.Nat.{_<_, _≤_};
 ghost use lib.Dec.{ltb};
-ghost use lib.ListN.{length};
+ghost use lib.ListN.{length, getD};
 ghost use Rattle.std.specs.Results.{Cases};
 ghost use Rattle.std.specs.declared.option.Option.the-variants.{Some, None};
-ghost use Rattle.theory.specs.Entries.{node};
-ghost use Rattle.book.specs.Answers.{listed, part-of};
+ghost use Rattle.theory.specs.Entries.{Part};
+ghost use Rattle.book.specs.Answers.{listed};
 ghost use Rattle.form.specs.declared.fault.Cause.the-variants.{TooMuch, WrongCell, WrongLeaf};
-ghost use Rattle.form.specs.Meanings.{every, inner-fault, node-at, seen, shape};
+ghost use Rattle.form.specs.Meanings.{every, inner-fault, seen, shape};
+ghost use Rattle.wire.specs.Marks.{marks-of};
 ghost use Rattle.wire.specs.Reads.{ItemMeans};
 use book::entry::CellNumbers;
 use book::entry::EntryCell;
 use book::entry::Node;
 use book::rules::all_below;
-use book::rules::are_nodes;
-use book::rules::has_node;
 use form::fault::Cause;
 use form::fault::Fault;
-use leaf::kind::Leaf;
 use leaf::kind::WireLeaf;
 use crate::decode::decode;
 use crate::faults::inside;
@@ -64,15 +62,32 @@ fn read_node(symbol: u16, args: &[u8], count: usize, place: usize, entry: usize)
     }
 }
 
-// The head and the body goals, which are nodes among the cells.
-fn read_goals<L: Leaf>(head: u8, body: &[u8], cells: &[EntryCell<L>], place: usize, entry: usize) -> Result<Goals, Fault>
-    requires { ⌜ length (now body) ≤ 8 ⌝ }
-    ensures { λ r. ⌜ Cases r (λ g. (g .head ≡ head) × (listed (g .body) ≡ now (body .entry)) × (every (node-at (map part-of (now (cells .entry)))) (head ∷ now (body .entry)) ≡ true)) (λ f. (every (node-at (map part-of (now (cells .entry)))) (head ∷ now (body .entry)) ≡ false) × (f ≡ inner-fault WrongCell place «entry»)) ⌝ }
+// Whether the cells with those numbers are marked as nodes.
+fn all_marked(nodes: &[bool], numbers: &[u8]) -> bool
+    ensures { λ r. ⌜ r ≡ every (λ n. getD (now (nodes .entry)) n false) (now (numbers .entry)) ⌝ }
 {
-    if !has_node(cells, head) {
-        return Err(inside(Cause::WrongCell, place, entry));
+    for n in numbers {
+        if !marked(nodes, *n) {
+            return false;
+        }
     }
-    if !are_nodes(cells, body) {
+    true
+}
+
+// Whether there is a cell with that number, and it is marked as a node.
+fn marked(nodes: &[bool], number: u8) -> bool
+    ensures { λ r. ⌜ r ≡ getD (now (nodes .entry)) number false ⌝ }
+{
+    let number = number as usize;
+    number < nodes.len() && nodes[number]
+}
+
+// The head and the body goals, which are nodes among the cells.
+fn read_goals(head: u8, body: &[u8], nodes: &[bool], place: usize, entry: usize) -> Result<Goals, Fault>
+    requires { ⌜ length (now body) ≤ 8 ⌝ }
+    ensures { λ r. ⌜ Cases r (λ g. (g .head ≡ head) × (listed (g .body) ≡ now (body .entry)) × (every (λ n. getD (now (nodes .entry)) n false) (head ∷ now (body .entry)) ≡ true)) (λ f. (every (λ n. getD (now (nodes .entry)) n false) (head ∷ now (body .entry)) ≡ false) × (f ≡ inner-fault WrongCell place «entry»)) ⌝ }
+{
+    if !marked(nodes, head) || !all_marked(nodes, body) {
         return Err(inside(Cause::WrongCell, place, entry));
     }
     match CellNumbers::of(body) {
@@ -81,11 +96,11 @@ fn read_goals<L: Leaf>(head: u8, body: &[u8], cells: &[EntryCell<L>], place: usi
     }
 }
 
-// Reads one field of an entry, after the cells read so far.
-pub fn read_field<L: WireLeaf>(split: &Split<'_>, held: &[EntryCell<L>], place: usize, entry: usize) -> Result<Item<L>, Fault>
-    ensures { λ r. ⌜ ItemMeans place «entry» (seen (L·WireLeaf .wide) (L·WireLeaf .reading) (map part-of (now (held .entry))) (now (now (split .entry) .contents)) (shape (now (split .entry) .tag))) r ⌝ }
+// Reads one field of an entry, after the cells read so far, of which the nodes are marked.
+pub fn read_field<L: WireLeaf>(split: &Split<'_>, nodes: &[bool], place: usize, entry: usize) -> Result<Item<L>, Fault>
+    ensures { λ r. ⌜ ((ps : List (Part L)) → marks-of ps ≡ now (nodes .entry) → ItemMeans place «entry» (seen (L·WireLeaf .wide) (L·WireLeaf .reading) ps (now (now (split .entry) .contents)) (shape (now (split .entry) .tag))) r) ⌝ }
 {
-    let count = held.len();
+    let count = nodes.len();
     let field = decode::<L>(split, place, entry)?;
     match field {
         Field::Variable { place } => {
@@ -103,7 +118,7 @@ pub fn read_field<L: WireLeaf>(split: &Split<'_>, held: &[EntryCell<L>], place: 
             Ok(Item::Cell(EntryCell::Node(node)))
         }
         Field::Goals { place, head, body } => {
-            let goals = read_goals(head, body, held, place, entry)?;
+            let goals = read_goals(head, body, nodes, place, entry)?;
             Ok(Item::Goals(goals))
         }
     }
