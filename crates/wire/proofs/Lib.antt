@@ -3,4 +3,5 @@ pub mod FaultsFound
 pub mod FirstEntries
 pub mod FirstFields
 pub mod Items
+pub mod Kept
 pub mod Seen

@@ -14,6 +14,10 @@ use Rattle.form.specs.declared.fault.Fault.{Fault}
 use Rattle.form.specs.Meanings.{Ending, entry, entry-kind, fault, found, row-fault, on-found, row-of, Seen, bad, complete, unended, ending-of, goals-end, cell, goals, inner-fault, wrong, shape, variable-field, leaf-field, node-field, goals-field}
 use Rattle.std.specs.declared.result.Result.{Result}
 use Rattle.std.specs.declared.result.Result.the-variants.{Ok, Err}
+use Rattle.std.specs.Finite.{All}
+use Rattle.book.specs.declared.entry.EntryCell.{EntryCell}
+use Rattle.book.specs.declared.table.Row.{Row}
+use Rattle.book.specs.Tables.{row-entries}
 use Rattle.book.specs.Answers.{kind-of, listed, part-of}
 use Rattle.wire.specs.declared.contents.GoodEntry.{GoodEntry}
 use Rattle.wire.specs.declared.item.Goals.{Goals as GoalsRead}
@@ -70,6 +74,10 @@ abbrev pub entry-with : {V : Type 0} → List (Part V) → GoodEntry → Entry V
 entry-with ps e =
     record { kind = kind-of (e .kind); parts = ps; head = e .goals .head; body = listed (e .goals .body) }
 
+-- every row points into the cells
+abbrev pub Inside : {V : Type 0} → List (EntryCell V) → List Row → Type 0
+Inside cells rows = All (λ row. row .first + row .cells ≤ length cells) rows
+
 module _ {V : Type 0} (wide : ℕ) (reading : List ℕ → Option V) where
   -- after a field the contents go on with one cell more, or end with the goals, and left is what follows the field
   abbrev pub GoesOn : List (Part V) → ℕ → List ℕ → Item V → List ℕ → Type 0
@@ -110,3 +118,16 @@ module _ {V : Type 0} (wide : ℕ) (reading : List ℕ → Option V) where
         ≡ on-found (entry (entry-with ps e)) (row-of wide reading (place + (length bs - length (now (e .left)))) (n + 1) (now (e .left))))
       × (e .place + length (now (e .contents)) ≤ place + length bs)
   RowStep place n bs (Err f) = row-of wide reading place n bs ≡ record { entries = []; first-fault = Some f }
+
+  -- cells were added, and they are those of the complete entry that the contents come to, if they come to one
+  abbrev pub Stores : ℕ → List ℕ → List (EntryCell V) → List (EntryCell V) → Type 0
+  Stores place bs before after =
+      (cs : List (EntryCell V)) × (after ≡ before ++ cs)
+      × ((ps : List (Part V)) (head : ℕ) (body : List ℕ) → ending-of wide reading [] place bs ≡ complete ps head body → map part-of cs ≡ ps)
+
+  -- a good entry with the cells ps was added to a table whose rows point into its cells
+  abbrev pub Adds : GoodEntry → List (Part V) → List Row → List Row → List (EntryCell V) → List (EntryCell V) → Type 0
+  Adds e ps rows rows′ cells cells′ =
+      ending-of wide reading [] (e .place) (now (e .contents)) ≡ complete ps (e .goals .head) (listed (e .goals .body)) →
+      Inside cells rows →
+      Inside cells′ rows′ × (row-entries cells′ rows′ ≡ row-entries cells rows ++ entry-with ps e ∷ []) × (length rows′ ≡ length rows + 1)
