@@ -1,4 +1,5 @@
 // Books as bytes: reading, inspecting, writing and listing them.
+pub mod byte_book;
 pub mod contents;
 pub mod decode;
 pub mod faults;
