@@ -6,6 +6,7 @@ pub mod faults;
 pub mod field;
 pub mod inspect;
 pub mod item;
+pub mod lines;
 pub mod load;
 pub mod nodes;
 pub mod read_contents;
