@@ -4,4 +4,5 @@ pub mod FirstEntries
 pub mod FirstFields
 pub mod Items
 pub mod Kept
+pub mod ListedLines
 pub mod Seen

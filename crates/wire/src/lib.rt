@@ -7,6 +7,8 @@ pub mod field;
 pub mod inspect;
 pub mod item;
 pub mod lines;
+pub mod list_refusal;
+pub mod listing;
 pub mod load;
 pub mod nodes;
 pub mod read_contents;
