@@ -1,0 +1,3 @@
+// Tests of books in tables.
+#[cfg(test)]
+mod tests;
