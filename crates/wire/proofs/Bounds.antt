@@ -96,8 +96,13 @@ module _ {V : Type 0} where
     contents-size =
         let s = outlined o x h in
         let e = s .0 in
-        omega (arith, ap (λ p. length (shown (contents-form written) p)) (s .1), ap (λ p. length (joined (part-form written) (parts-in p))) (s .1),
-          length-append (joined (part-form written) (e .parts)) (goals-form written (e .head) (e .body)), ap (λ y. y .goals) (s .2))
+        omega (
+          arith,
+          ap (λ p. length (shown (contents-form written) p)) (s .1),
+          ap (λ p. length (joined (part-form written) (parts-in p))) (s .1),
+          length-append (joined (part-form written) (e .parts)) (goals-form written (e .head) (e .body)),
+          ap (λ y. y .goals) (s .2),
+        )
 
     pub entry-size : length (shown (entry-form written) o) ≡ 3 + length (shown (contents-form written) o)
     entry-size =
@@ -107,8 +112,8 @@ module _ {V : Type 0} where
 
     -- what an entry is written as: its first three bytes, its cells and its goals
     pub entry-text : (tag size : ℕ) → tag ≡ entry-tag (kind-of (x .kind)) → size ≡ length (shown (contents-form written) o) →
-      ((tag ∷ two-bytes size) ++ joined (part-form written) (parts-in o)) ++ field-form 19 (x .head ∷ body-in o)
-      ≡ shown (entry-form written) o
+        ((tag ∷ two-bytes size) ++ joined (part-form written) (parts-in o)) ++ field-form 19 (x .head ∷ body-in o)
+        ≡ shown (entry-form written) o
     entry-text tag size t l =
         let s = outlined o x h in
         let e = s .0 in

@@ -14,7 +14,7 @@ use book::rules::numbers;
 use leaf::kind::WireLeaf;
 
 // Writes the bytes and says how many they are.
-pub fn put_bytes(bytes: &[u8], out: &mut [u8]) -> usize
+pub(crate) fn put_bytes(bytes: &[u8], out: &mut [u8]) -> usize
     requires { ⌜ length (now bytes) ≤ length (now out) ⌝ }
     ensures { λ r. ⌜ Fills (now (out .entry)) (now (out .exit)) (now (bytes .entry)) r ⌝ }
 {
@@ -24,7 +24,7 @@ pub fn put_bytes(bytes: &[u8], out: &mut [u8]) -> usize
 }
 
 // Writes what a field begins with: its tag, and how many bytes it holds.
-pub fn put_header(tag: u8, size: usize, out: &mut [u8]) -> usize
+pub(crate) fn put_header(tag: u8, size: usize, out: &mut [u8]) -> usize
     requires { ⌜ size < 65536 ⌝ ∗ ⌜ 3 ≤ length (now out) ⌝ }
     ensures { λ r. ⌜ Fills (now (out .entry)) (now (out .exit)) (tag ∷ two-bytes size) r ⌝ }
 {
@@ -58,7 +58,7 @@ fn put_node<L: WireLeaf>(symbol: u16, args: &[u8], out: &mut [u8]) -> usize
 }
 
 // Writes a cell's field.
-pub fn put_cell<L: WireLeaf>(cell: &EntryCell<L>, out: &mut [u8]) -> usize
+pub(crate) fn put_cell<L: WireLeaf>(cell: &EntryCell<L>, out: &mut [u8]) -> usize
     requires { ⌜ arguments (part-of (now cell)) ≤ 4 ⌝ ∗ ⌜ length (part-form (L·WireLeaf .written) (part-of (now cell))) ≤ length (now out) ⌝ }
     ensures { λ r. ⌜ Fills (now (out .entry)) (now (out .exit)) (part-form (L·WireLeaf .written) (part-of (now (cell .entry)))) r ⌝ }
 {

@@ -11,14 +11,14 @@ ghost use Rattle.form.specs.Fields.{field-form};
 ghost use Rattle.form.specs.Forms.{entry-form, entry-tag, part-form};
 ghost use Rattle.book.specs.Answers.{kind-of, outline-at};
 ghost use Rattle.wire.specs.Writes.{body-in, parts-in, shown};
-use book::entry::EntryKind;
-use book::entry::Outline;
-use book::interface::Book;
-use leaf::kind::WireLeaf;
 use crate::put::put_bytes;
 use crate::put::put_cell;
 use crate::put::put_header;
 use crate::sizes::size_of_contents;
+use book::entry::EntryKind;
+use book::entry::Outline;
+use book::interface::Book;
+use leaf::kind::WireLeaf;
 
 // Writes the cells of an entry.
 fn put_cells<L: WireLeaf, B: Book<L>>(book: &B, index: usize, count: usize, out: &mut [u8]) -> usize
@@ -50,7 +50,13 @@ fn put_body<L: WireLeaf, B: Book<L>>(book: &B, index: usize, count: usize, out: 
 }
 
 // Writes the field of an entry's goals, the head first.
-fn put_goals<L: WireLeaf, B: Book<L>>(book: &B, index: usize, head: u8, count: usize, out: &mut [u8]) -> usize
+fn put_goals<L: WireLeaf, B: Book<L>>(
+    book: &B,
+    index: usize,
+    head: u8,
+    count: usize,
+    out: &mut [u8],
+) -> usize
     requires { ⌜ count ≡ length (body-in (nth (B·Book .entries (now book)) index)) ⌝ ∗ ⌜ 4 + count ≤ length (now out) ⌝ }
     ensures { λ r. ⌜ Fills (now (out .entry)) (now (out .exit)) (field-form 19 (head ∷ body-in (nth (B·Book .entries (now (book .entry))) index))) r ⌝ }
 {
@@ -70,7 +76,12 @@ fn tag_of(kind: EntryKind) -> u8
 }
 
 // Writes an entry that has that outline.
-fn put_outlined<L: WireLeaf, B: Book<L>>(book: &B, index: usize, outline: Outline, out: &mut [u8]) -> usize
+fn put_outlined<L: WireLeaf, B: Book<L>>(
+    book: &B,
+    index: usize,
+    outline: Outline,
+    out: &mut [u8],
+) -> usize
     requires { ⌜ Some outline ≡ outline-at (B·Book .entries (now book)) index ⌝ ∗ ⌜ length (shown (entry-form (L·WireLeaf .written)) (nth (B·Book .entries (now book)) index)) ≤ length (now out) ⌝ }
     ensures { λ r. ⌜ Fills (now (out .entry)) (now (out .exit)) (shown (entry-form (L·WireLeaf .written)) (nth (B·Book .entries (now (book .entry))) index)) r ⌝ }
 {
@@ -81,7 +92,7 @@ fn put_outlined<L: WireLeaf, B: Book<L>>(book: &B, index: usize, outline: Outlin
 }
 
 // Writes an entry; where there is none, nothing.
-pub fn put_entry<L: WireLeaf, B: Book<L>>(book: &B, index: usize, out: &mut [u8]) -> usize
+pub(crate) fn put_entry<L: WireLeaf, B: Book<L>>(book: &B, index: usize, out: &mut [u8]) -> usize
     requires { ⌜ length (shown (entry-form (L·WireLeaf .written)) (nth (B·Book .entries (now book)) index)) ≤ length (now out) ⌝ }
     ensures { λ r. ⌜ Fills (now (out .entry)) (now (out .exit)) (shown (entry-form (L·WireLeaf .written)) (nth (B·Book .entries (now (book .entry))) index)) r ⌝ }
 {

@@ -42,7 +42,11 @@ fn size_of_cells<L: WireLeaf, B: Book<L>>(book: &B, index: usize, count: usize) 
 }
 
 // How many bytes an entry holds: its cells and its goals.
-pub fn size_of_contents<L: WireLeaf, B: Book<L>>(book: &B, index: usize, outline: Outline) -> usize
+pub(crate) fn size_of_contents<L: WireLeaf, B: Book<L>>(
+    book: &B,
+    index: usize,
+    outline: Outline,
+) -> usize
     requires { ⌜ Some outline ≡ outline-at (B·Book .entries (now book)) index ⌝ }
     ensures value { λ r. ⌜ r ≡ length (shown (contents-form (L·WireLeaf .written)) (nth (B·Book .entries (now (book .entry))) index)) ⌝ }
     ensures small { λ r. ⌜ r ≤ 16652 ⌝ }
@@ -62,7 +66,7 @@ fn size_of_entry<L: WireLeaf, B: Book<L>>(book: &B, index: usize) -> usize
 }
 
 // How many bytes a book is written as.
-pub fn size_of_book<L: WireLeaf, B: Book<L>>(book: &B) -> usize
+pub(crate) fn size_of_book<L: WireLeaf, B: Book<L>>(book: &B) -> usize
     ensures { λ r. ⌜ r ≡ length (book-form (L·WireLeaf .written) (B·Book .entries (now (book .entry)))) ⌝ }
 {
     let mut size = 0;

@@ -4,10 +4,10 @@ ghost use lib.ListN.{length};
 ghost use Rattle.leaf.specs.Outputs.{Fills};
 ghost use Rattle.form.specs.Forms.{book-form};
 ghost use Rattle.wire.specs.Writes.{WriteMeans, refusal-number};
-use book::interface::Book;
-use leaf::kind::WireLeaf;
 use crate::put_entry::put_entry;
 use crate::sizes::size_of_book;
+use book::interface::Book;
+use leaf::kind::WireLeaf;
 
 // Why a book was not written.
 #[derive(Clone, Copy, PartialEq, Eq, Debug)]

@@ -14,9 +14,10 @@ pub put-cell-at-requires : need.put-cell-at-requires
 put-cell-at-requires g c κs =
     let o = nth (g .B·Book .entries (c .args .book .now)) (c .args .index) in
     let f = part-form (g .L·WireLeaf .written) in
-    let at = sym (c .in-Some .ensures tt ∙ cell-is o (c .loop-j .j)) in
-    (few-args (g .B·Book .rules (c .args .book .now)) (c .args .index) (c .loop-j .j) _ at,
-      room-next f (parts-in o) (c .loop-j .j) (ap (shown f) at) (c .loop-j .inv) (c .pre .1))
+    let at = sym (c .in-Some .ensures tt ∙ cell-is o (c .loop-j .j)) in (
+      few-args (g .B·Book .rules (c .args .book .now)) (c .args .index) (c .loop-j .j) _ at,
+      room-next f (parts-in o) (c .loop-j .j) (ap (shown f) at) (c .loop-j .inv) (c .pre .1),
+    )
 
 pub loop-j-again : need.loop-j-again
 loop-j-again g c =

@@ -12,10 +12,11 @@ add-size g c =
 
 pub loop-i-again : need.loop-i-again
 loop-i-again g c =
-    let es = g .B·Book .entries (c .args .book .now) in
-    (long-next (entry-form (g .L·WireLeaf .written)) es (c .loop-i .i) (c .loop-i .size) (c .size-of-entry-size .result) _ refl (c .loop-i .inv .0)
-      (c .size-of-entry-size .ensures .value),
-      omega (arith, c .loop-i .inv .1, c .size-of-entry-size .ensures .small))
+    let es = g .B·Book .entries (c .args .book .now) in (
+      long-next (entry-form (g .L·WireLeaf .written)) es (c .loop-i .i) (c .loop-i .size) (c .size-of-entry-size .result) _ refl (c .loop-i .inv .0)
+          (c .size-of-entry-size .ensures .value),
+      omega (arith, c .loop-i .inv .1, c .size-of-entry-size .ensures .small),
+    )
 
 pub returns : need.returns
 returns g c =

@@ -11,6 +11,6 @@ returns-in-Node g c =
     let args = c .in-Node .node .args in
     record {
       value =
-        omega (arith, ap (λ x. length (part-form (g .L·WireLeaf .written) (part-of x))) (c .in-Node .is), length-listed (args .len) (args .cells));
+          omega (arith, ap (λ x. length (part-form (g .L·WireLeaf .written) (part-of x))) (c .in-Node .is), length-listed (args .len) (args .cells));
       small = omega arith;
     }

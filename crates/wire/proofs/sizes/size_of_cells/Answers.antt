@@ -17,10 +17,11 @@ loop-j-again g c =
     let es = g .B·Book .entries (c .args .book .now) in
     let o = nth es (c .args .index) in
     let f = part-form (g .L·WireLeaf .written) in
-    let at = c .in-Some .ensures tt ∙ cell-is o (c .loop-j .j) in
-    (long-next f (parts-in o) (c .loop-j .j) (c .loop-j .size) (c .size-of-cell-size .result) _ (ap (shown f) (sym at)) (c .loop-j .inv .0)
-      (c .size-of-cell-size .ensures .value),
-      omega (arith, c .loop-j .inv .1, c .size-of-cell-size .ensures .small))
+    let at = c .in-Some .ensures tt ∙ cell-is o (c .loop-j .j) in (
+      long-next f (parts-in o) (c .loop-j .j) (c .loop-j .size) (c .size-of-cell-size .result) _ (ap (shown f) (sym at)) (c .loop-j .inv .0)
+          (c .size-of-cell-size .ensures .value),
+      omega (arith, c .loop-j .inv .1, c .size-of-cell-size .ensures .small),
+    )
 
 pub returns-in-None : need.returns-in-None
 returns-in-None g c =

@@ -10,8 +10,12 @@ size-of-cells-requires g c κs =
 pub add-result-2 : need.add-result-2
 add-result-2 g c =
     let o = nth (g .B·Book .entries (c .args .book .now)) (c .args .index) in
-    omega (arith, c .size-of-cells .ensures .small, goals-count (g .L·WireLeaf .written) o (c .args .outline) (c .pre),
-      few-goals (g .B·Book .rules (c .args .book .now)) (c .args .index))
+    omega (
+      arith,
+      c .size-of-cells .ensures .small,
+      goals-count (g .L·WireLeaf .written) o (c .args .outline) (c .pre),
+      few-goals (g .B·Book .rules (c .args .book .now)) (c .args .index),
+    )
 
 pub returns : need.returns
 returns g c =
@@ -20,6 +24,10 @@ returns g c =
     record {
       value = omega (arith, c .size-of-cells .ensures .value, contents-size w o (c .args .outline) (c .pre));
       small =
-        omega (arith, c .size-of-cells .ensures .small, goals-count w o (c .args .outline) (c .pre),
-          few-goals (g .B·Book .rules (c .args .book .now)) (c .args .index));
+          omega (
+            arith,
+            c .size-of-cells .ensures .small,
+            goals-count w o (c .args .outline) (c .pre),
+            few-goals (g .B·Book .rules (c .args .book .now)) (c .args .index),
+          );
     }

@@ -12,7 +12,7 @@ returns-in-Some g c =
     let o = nth (g .B·Book .entries (c .args .book .now)) (c .args .index) in
     record {
       value =
-        omega (arith, c .size-of-contents .ensures .value, entry-size (g .L·WireLeaf .written) o (c .in-Some .outline) (c .in-Some .ensures tt));
+          omega (arith, c .size-of-contents .ensures .value, entry-size (g .L·WireLeaf .written) o (c .in-Some .outline) (c .in-Some .ensures tt));
       small = omega (arith, c .size-of-contents .ensures .small);
     }
 
