@@ -1,5 +1,7 @@
+pub mod Bounds
 pub mod Every
 pub mod FaultsFound
+pub mod Filling
 pub mod FirstEntries
 pub mod FirstFields
 pub mod Items

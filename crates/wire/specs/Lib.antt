@@ -1,3 +1,4 @@
 pub mod Listings
 pub mod Marks
 pub mod Reads
+pub mod Writes
