@@ -1,0 +1,2 @@
+-- The proofs, each file after those that it cites.
+pub mod Computed

@@ -1,0 +1,13 @@
+// The theorems over the executable search, check and sittings. Each function does nothing: its contract is the
+// theorem, and the check proves it.
+ghost use mathlib.Core.Path.{_≡_};
+ghost use mathlib.Core.List.{map};
+ghost use Rattle.std.specs.declared.option.Option.the-variants.{Some};
+ghost use Rattle.searching.specs.Table.{executed, table};
+
+// Every sitting of the table, executed call by call, comes out with the answers that the table states.
+pub fn executed_cases_come_out() -> u8
+    ensures { λ _. ⌜ map executed table ≡ map (λ c. Some (c .sitting)) table ⌝ }
+{
+    0
+}
