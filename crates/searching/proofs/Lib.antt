@@ -1,2 +1,8 @@
 -- The proofs, each file after those that it cites.
+pub mod Scopes
+pub mod Copies
+pub mod Attempts
+pub mod Searched
+pub mod Checked
+pub mod Theorems
 pub mod Computed

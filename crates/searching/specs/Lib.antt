@@ -2,5 +2,6 @@
 pub mod Trying
 pub mod Solving
 pub mod Checking
+pub mod Theorems
 pub mod Answering
 pub mod Table
