@@ -5,4 +5,7 @@ pub mod Attempts
 pub mod Searched
 pub mod Checked
 pub mod Theorems
+pub mod Answered
+pub mod Sittings
 pub mod Computed
+pub mod Tabled

@@ -96,6 +96,17 @@ module _ {V : Type 0} where
   by-searching cells (Some e) =
       answered (answer-of (e .outcome)) (left-by cells (e .last .cells) (e .outcome))
 
+  -- the event before those that follow, if they come out
+  unfoldable pub before : Event V → Option (List (Event V)) → Option (List (Event V))
+  before e None = None
+  before e (Some h) = Some (e ∷ h)
+
+  -- the sitting goes on over the cells that the call leaves
+  unfoldable pub next-call : Call V → Option (Answered V) → (List (Cell V) → Option (List (Event V))) →
+      Option (List (Event V))
+  next-call c None go = None
+  next-call c (Some a) go = before (record { call = c; answer = a .answer }) (go (a .cells))
+
 -- with a sameness of leaf values, over a book, with so many cells supplied, and turns for a search
 module _ {V : Type 0} (alike : V → V → Bool) (book : List (Entry V)) (supplied turns : ℕ) where
   -- the limits of a search
@@ -137,17 +148,6 @@ module _ {V : Type 0} (alike : V → V → Bool) (book : List (Entry V)) (suppli
       (answered
       (answer-to (checks alike book (length cells) (capacity supplied - length cells) cells goals steps))
       cells))))
-
-  -- the event before those that follow, if they come out
-  unfoldable pub before : Event V → Option (List (Event V)) → Option (List (Event V))
-  before e None = None
-  before e (Some h) = Some (e ∷ h)
-
-  -- the sitting goes on over the cells that the call leaves
-  unfoldable pub next-call : Call V → Option (Answered V) → (List (Cell V) → Option (List (Event V))) →
-      Option (List (Event V))
-  next-call c None go = None
-  next-call c (Some a) go = before (record { call = c; answer = a .answer }) (go (a .cells))
 
   -- the sitting that the calls make over the cells
   unfoldable pub sits : List (Call V) → List (Cell V) → Option (List (Event V))

@@ -2,6 +2,6 @@
 pub mod Trying
 pub mod Solving
 pub mod Checking
-pub mod Theorems
 pub mod Answering
+pub mod Theorems
 pub mod Table

@@ -1,7 +1,7 @@
 -- What holds of the executable search and check: they come to what the definitions give.
 use mathlib.Core.Path.{_≡_}
 use mathlib.Core.Bool.{Bool}
-use mathlib.Core.List.{List}
+use mathlib.Core.List.{List, [], map}
 use Prim.Native.Nat.{ℕ, _+_, _<_, _≤_}
 use lib.ListN.{length}
 use Rattle.std.specs.Finite.{All}
@@ -10,13 +10,17 @@ use Rattle.theory.specs.Entries.{Entry, BookRules}
 use Rattle.theory.specs.Records.{Step, replay}
 use Rattle.theory.specs.Search.{Limits, granted, Solve}
 use Rattle.theory.specs.Check.{Check}
-use Rattle.theory.specs.Known.{Known, Sound, recorded}
+use Rattle.theory.specs.Calls.{Call, Event}
+use Rattle.theory.specs.Known.{Known, Sound, recorded, after}
+use Rattle.theory.specs.Answers.{Defined}
+use Rattle.theory.specs.Sittings.{Right}
 use Rattle.unify.specs.Cells.{Cell, most}
 use Rattle.unify.specs.Solved.{Solved}
 use Rattle.unify.specs.Theorems.{Decides}
 use Rattle.unify.specs.Meaning.{Means}
 use Rattle.searching.specs.Solving.{Ended, solves}
 use Rattle.searching.specs.Checking.{checks}
+use Rattle.searching.specs.Answering.{Answered, answers, sits}
 
 -- the cells in use are solved, and mean what is known
 pub record Holds {V : Type 0} (cells : List (Cell V)) (k : Known V) : Type 0 where
@@ -48,3 +52,18 @@ Check-is-right V =
     (k : Known V) → Sound k → (cells : List (Cell V)) → Holds cells k →
     (goals : List ℕ) → All (λ g. g < k .used) goals → (free : ℕ) → k .used + free ≤ most →
     (steps : List Step) → Check book (k .equations) free goals steps (checks same book (k .used) free cells goals steps)
+
+-- the answer that is executed is the defined one, and the cells that it leaves mean what is known after it
+abbrev pub Answers-are-right : Type 0 → Type 0
+Answers-are-right V =
+    (same : V → V → Bool) → Decides same → (book : List (Entry V)) → BookRules book → (supplied turns : ℕ) →
+    (k : Known V) → Sound k → (cells : List (Cell V)) → Holds cells k →
+    (c : Call V) (a : Answered V) → answers same book supplied turns cells c ≡ Some a →
+    Defined book supplied k c (a .answer) × Holds (a .cells) (after book k c (a .answer))
+
+-- a sitting that is executed from no cells on is right, and has just the calls that were made
+abbrev pub Sittings-are-right : Type 0 → Type 0
+Sittings-are-right V =
+    (same : V → V → Bool) → Decides same → (book : List (Entry V)) → BookRules book → (supplied turns : ℕ) →
+    (calls : List (Call V)) (h : List (Event V)) → sits same book supplied turns calls [] ≡ Some h →
+    Right book supplied h × (map (λ e. e .call) h ≡ calls)
