@@ -7,5 +7,6 @@ pub mod Checked
 pub mod Theorems
 pub mod Answered
 pub mod Sittings
+pub mod Enough
 pub mod Computed
 pub mod Tabled

@@ -2,7 +2,7 @@
 use mathlib.Core.Path.{_≡_}
 use mathlib.Core.Bool.{Bool}
 use mathlib.Core.List.{List, [], map}
-use Prim.Native.Nat.{ℕ, _+_, _<_, _≤_}
+use Prim.Native.Nat.{ℕ, _+_, _*_, _<_, _≤_}
 use lib.ListN.{length}
 use Rattle.std.specs.Finite.{All}
 use Rattle.std.specs.declared.option.Option.the-variants.{Some}
@@ -10,9 +10,9 @@ use Rattle.theory.specs.Entries.{Entry, BookRules}
 use Rattle.theory.specs.Records.{Step, replay}
 use Rattle.theory.specs.Search.{Limits, granted, Solve}
 use Rattle.theory.specs.Check.{Check}
-use Rattle.theory.specs.Calls.{Call, Event}
+use Rattle.theory.specs.Calls.{Call, write-open, write-leaf, write-node, equate, compare, solve, check, Event}
 use Rattle.theory.specs.Known.{Known, Sound, recorded, after}
-use Rattle.theory.specs.Answers.{Defined}
+use Rattle.theory.specs.Answers.{Defined, Symbols}
 use Rattle.theory.specs.Sittings.{Right}
 use Rattle.unify.specs.Cells.{Cell, most}
 use Rattle.unify.specs.Solved.{Solved}
@@ -67,3 +67,20 @@ Sittings-are-right V =
     (same : V → V → Bool) → Decides same → (book : List (Entry V)) → BookRules book → (supplied turns : ℕ) →
     (calls : List (Call V)) (h : List (Event V)) → sits same book supplied turns calls [] ≡ Some h →
     Right book supplied h × (map (λ e. e .call) h ≡ calls)
+
+-- so many turns suffice for the call: a search takes two for each try of its budget, and one more, at most
+abbrev pub Enough : {V : Type 0} → ℕ → Call V → Type 0
+Enough turns write-open = Unit {0}
+Enough turns (write-leaf v) = Unit {0}
+Enough turns (write-node f args) = Unit {0}
+Enough turns (equate x y w) = Unit {0}
+Enough turns (compare x y w) = Unit {0}
+Enough turns (solve goals budget steps w f) = 2 * budget < turns
+Enough turns (check goals steps w f) = Unit {0}
+
+-- where the turns suffice, every call over any cells comes to an answer
+abbrev pub Turns-suffice : Type 0 → Type 0
+Turns-suffice V =
+    (same : V → V → Bool) (book : List (Entry V)) (supplied turns : ℕ) (calls : List (Call V))
+    (cells : List (Cell V)) → All (λ c. Symbols c × Enough turns c) calls →
+    (h : List (Event V)) × (sits same book supplied turns calls cells ≡ Some h)

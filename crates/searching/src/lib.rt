@@ -1,13 +1,13 @@
 // The theorems over the executable search, check and sittings. Each function does nothing: its contract is the
 // theorem, and the check proves it.
 ghost use mathlib.Core.Path.{_≡_};
-ghost use mathlib.Core.List.{map};
+ghost use mathlib.Core.List.{[], map};
 ghost use Rattle.std.specs.Finite.{All};
 ghost use Rattle.std.specs.declared.option.Option.the-variants.{Some};
 ghost use Rattle.theory.specs.Entries.{BookRules};
 ghost use Rattle.theory.specs.Sittings.{Right};
 ghost use Rattle.searching.specs.Theorems.{Search-is-right, Check-is-right};
-ghost use Rattle.searching.specs.Theorems.{Answers-are-right, Sittings-are-right};
+ghost use Rattle.searching.specs.Theorems.{Answers-are-right, Sittings-are-right, Turns-suffice};
 ghost use Rattle.searching.specs.Table.{executed, table};
 
 // Whatever the executable search comes to is what the definition of searches gives, and after a grant its cells
@@ -36,6 +36,13 @@ pub fn answers_are_right<V>() -> u8
 // A sitting that is executed from a wiped slate on is right.
 pub fn sittings_are_right<V>() -> u8
     ensures { λ _. ⌜ Sittings-are-right V ⌝ }
+{
+    0
+}
+
+// Where a search has two turns for each try of its budget, and one more, every call comes to an answer.
+pub fn turns_suffice<V>() -> u8
+    ensures { λ _. ⌜ Turns-suffice V ⌝ }
 {
     0
 }
