@@ -7,8 +7,8 @@ use native.Mathlib.Omega.{arith}
 use lib.Dec.{eqb}
 use lib.ListN.{length, take, length-take}
 use Rattle.std.proofs.shelf.Tests.{eq-eqb, ne-eqb}
-use Rattle.slate.specs.declared.Content.{Content}
-use Rattle.slate.specs.declared.Content.the-variants.{Open, Leaf, Node}
+use Rattle.slate.specs.declared.cell.Content.{Content}
+use Rattle.slate.specs.declared.cell.Content.the-variants.{Open, Leaf, Node}
 use Rattle.slate.specs.Logic.{content-of, Counted}
 use Rattle.unify.specs.Unify.{fits}
 

@@ -1,3 +1,4 @@
 pub mod Read
 pub mod Labels
 pub mod Steps
+mod Sameness

@@ -4,7 +4,7 @@ use mathlib.Core.List.{List, [], _∷_, map}
 use Prim.Native.Nat.{ℕ, zero, suc, _<_}
 use native.Mathlib.Nat.{not-suc-le-zero, le-of-suc-le-suc}
 use lib.ListN.{length, getD, set}
-use Rattle.slate.specs.declared.Cell.{Cell}
+use Rattle.slate.specs.declared.cell.Cell.{Cell}
 use Rattle.slate.specs.Logic.{cell-of, cells-of, content-of, Counted, AllCounted}
 use Rattle.unify.specs.Cells.{joined-at, content-at, rejoin}
 

@@ -13,9 +13,9 @@ use Rattle.std.specs.Finite.{All, nth}
 use Rattle.std.proofs.shelf.Lists.{drop-all}
 use Rattle.std.proofs.shelf.Tests.{cases-lt}
 use Rattle.std.specs.declared.option.Option.the-variants.{Some, None}
-use Rattle.slate.specs.declared.Cell.{Cell}
-use Rattle.slate.specs.declared.Content.{Content as Written}
-use Rattle.slate.specs.declared.Content.the-variants.{Node}
+use Rattle.slate.specs.declared.cell.Cell.{Cell}
+use Rattle.slate.specs.declared.cell.Content.{Content as Written}
+use Rattle.slate.specs.declared.cell.Content.the-variants.{Node}
 use Rattle.slate.specs.Logic.{cell-of, cells-of, content-of, AllCounted, Ready, state, moved, Told}
 use Rattle.unify.specs.Cells.{Content, node, root, joined-at, content-at, rejoin, unjoined}
 use Rattle.unify.specs.Unify.{State, Move, went, clash, fits, meet, meet-all, meet-arguments, pay, next, after, start, clear, rest, join, unify, compare}

@@ -6,9 +6,9 @@ use Prim.Native.Nat.{ℕ, _<_, _≤_}
 use lib.ListN.{take, length}
 use Rattle.std.specs.Finite.{All}
 use Rattle.std.specs.declared.option.Option.{Option}
-use Rattle.slate.specs.declared.Content.{Content}
-use Rattle.slate.specs.declared.Content.the-variants.{Open, Leaf, Node}
-use Rattle.slate.specs.declared.Cell.{Cell}
+use Rattle.slate.specs.declared.cell.Content.{Content}
+use Rattle.slate.specs.declared.cell.Content.the-variants.{Open, Leaf, Node}
+use Rattle.slate.specs.declared.cell.Cell.{Cell}
 use Rattle.unify.specs.Cells as C
 use Rattle.unify.specs.Unify.{State, Move, went, clash}
 use Rattle.unify.specs.Steady.{Steady}
