@@ -9,7 +9,7 @@ use lib.ListN.{length, take, length-take}
 use Rattle.std.proofs.shelf.Tests.{eq-eqb, ne-eqb}
 use Rattle.slate.specs.declared.cell.Content.{Content}
 use Rattle.slate.specs.declared.cell.Content.the-variants.{Open, Leaf, Node}
-use Rattle.slate.specs.Logic.{content-of, Counted}
+use Rattle.slate.specs.Cells.{content-of, Counted}
 use Rattle.unify.specs.Unify.{fits}
 
 module _ {L : Type 0} (same : L → L → Bool) (oj : Bool) where

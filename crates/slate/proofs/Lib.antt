@@ -1,4 +1,10 @@
+pub mod Sameness
 pub mod Read
 pub mod Labels
 pub mod Steps
-mod Sameness
+pub mod Front
+pub mod Contents
+pub mod Standing
+pub mod Unused
+pub mod Next
+pub mod Answering

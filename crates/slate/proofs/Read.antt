@@ -5,7 +5,7 @@ use Prim.Native.Nat.{ℕ, zero, suc, _<_}
 use native.Mathlib.Nat.{not-suc-le-zero, le-of-suc-le-suc}
 use lib.ListN.{length, getD, set}
 use Rattle.slate.specs.declared.cell.Cell.{Cell}
-use Rattle.slate.specs.Logic.{cell-of, cells-of, content-of, Counted, AllCounted}
+use Rattle.slate.specs.Cells.{cell-of, cells-of, content-of, Counted, AllCounted}
 use Rattle.unify.specs.Cells.{joined-at, content-at, rejoin}
 
 pub joined-read : {L : Type 0} (cs : List (Cell L)) (i : ℕ) (c : Cell L) → i < length cs → c ≡ getD cs i c → c .joined ≡ joined-at (cells-of cs) i

@@ -1,7 +1,7 @@
 -- The steps of the loops against the unifier's, over the lists that the code has.
 use mathlib.Core.Path.{_≡_, refl, sym, _∙_, ap, subst}
 use mathlib.Core.Bool.{Bool, true, false}
-use mathlib.Core.List.{List, [], _∷_, map}
+use mathlib.Core.List.{List, [], _∷_, _++_, map}
 use mathlib.Core.Logic.{_⊎_, inl, inr}
 use Prim.Native.Nat.{ℕ, zero, suc, _+_, _-_, min, _<_, _≤_}
 use native.Mathlib.Nat.{not-suc-le-zero, le-of-suc-le-suc}
@@ -16,11 +16,15 @@ use Rattle.std.specs.declared.option.Option.the-variants.{Some, None}
 use Rattle.slate.specs.declared.cell.Cell.{Cell}
 use Rattle.slate.specs.declared.cell.Content.{Content as Written}
 use Rattle.slate.specs.declared.cell.Content.the-variants.{Node}
-use Rattle.slate.specs.Logic.{cell-of, cells-of, content-of, AllCounted, Ready, state, moved, Told}
+use Rattle.slate.specs.Cells.{cell-of, cells-of, content-of, AllCounted}
+use Rattle.slate.specs.Loops.{Ready, state, moved, Did, Told}
 use Rattle.unify.specs.Cells.{Content, node, root, joined-at, content-at, rejoin, unjoined}
 use Rattle.unify.specs.Unify.{State, Move, went, clash, fits, meet, meet-all, meet-arguments, pay, next, after, start, clear, rest, join, unify, compare}
 use Rattle.unify.specs.Solved.{Solved}
 use Rattle.unify.specs.Cells as C
+use Rattle.theory.specs.Equations.{equal}
+use Rattle.unify.specs.Meaning.{Equated, Entailed}
+use Rattle.unify.proofs.Meant.{meaning}
 use Rattle.unify.specs.Theorems.{Decides, Agreed, Refused, Unified, Equal, Different, Compared}
 use Rattle.unify.proofs.Unified.{unify-right}
 use Rattle.unify.proofs.Compared.{compare-right}
@@ -202,18 +206,23 @@ module _ {L : Type 0} (same : L → L → Bool) (oj : Bool) (cells : List (Cell 
   unfolding join start after
   join-went e = ap (λ m. after m (rest same oj)) e
 
-module _ {L : Type 0} (same : L → L → Bool) (law : Decides same) (old : List (C.Cell L)) (ok : Solved old) (a b : ℕ) (ha : a < length old) (hb : b < length old) where
-  -- the code came to this state
-  module _ (s : State L) where
-    pub agreed : went s ≡ join same true old a b → Agreed old a b s
-    unfolding unify
-    agreed e = subst (Unified old a b) (sym e) (unify-right same law old ok a b ha hb)
+-- the unifier's runs, by what the cells mean
+module _ {L : Type 0} (same : L → L → Bool) (law : Decides same) (old : List (C.Cell L)) (ok : Solved old) (a b : ℕ) (ha : a < length old) (hb : b < length old) (s : State L) where
+  pub agreed : went s ≡ join same true old a b → (Did old (s .cells) a b true)
+  unfolding unify
+  agreed e =
+      let z : Agreed old a b s = subst (Unified old a b) (sym e) (unify-right same law old ok a b ha hb) in
+      (z .solved, z .contents .number, λ es means. subst (Equated (es ++ (equal a b ∷ []))) (sym e) (meaning L .equated same law old es ok means a b ha hb))
 
-    pub refused : clash s ≡ join same true old a b → Refused old a b s
-    unfolding unify
-    refused e = subst (Unified old a b) (sym e) (unify-right same law old ok a b ha hb)
+  pub refused : clash s ≡ join same true old a b → (new : List (C.Cell L)) → new ≡ clear (s .trail) (s .cells) → Did old new a b false
+  unfolding unify
+  refused e new n =
+      let z : Refused old a b s = subst (Unified old a b) (sym e) (unify-right same law old ok a b ha hb) in
+      (n ∙ z .undone, λ es means. subst (Equated (es ++ (equal a b ∷ []))) (sym e) (meaning L .equated same law old es ok means a b ha hb))
 
-    pub told : (r : Bool) → moved r s ≡ join same false old a b → (Told old a b r) × (clear (s .trail) (s .cells) ≡ old)
-    unfolding compare
-    told true e = let z : Equal old a b s = subst (Compared old a b) (sym e) (compare-right same law old ok a b ha hb) in (z .entails, z .undone)
-    told false e = let z : Different old a b s = subst (Compared old a b) (sym e) (compare-right same law old ok a b ha hb) in ((z .ρ, z .solves, z .apart), z .undone)
+  pub told : (r : Bool) → moved r s ≡ join same false old a b → (Told old a b r) × (clear (s .trail) (s .cells) ≡ old)
+  unfolding compare
+  told true e = let z : Equal old a b s = subst (Compared old a b) (sym e) (compare-right same law old ok a b ha hb) in
+      (λ es means. subst (Entailed es a b) (sym e) (meaning L .compared same law old es ok means a b ha hb), z .undone)
+  told false e = let z : Different old a b s = subst (Compared old a b) (sym e) (compare-right same law old ok a b ha hb) in
+      (λ es means. subst (Entailed es a b) (sym e) (meaning L .compared same law old es ok means a b ha hb), z .undone)

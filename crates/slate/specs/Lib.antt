@@ -1,1 +1,4 @@
-pub mod Logic
+pub mod Cells
+pub mod Loops
+pub mod Refusals
+pub mod Slates

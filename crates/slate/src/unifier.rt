@@ -11,8 +11,9 @@ ghost use Rattle.unify.specs.Unify.{fits as fitting};
 ghost use Rattle.unify.specs.Unify.{meet as meeting, link as linking};
 ghost use Rattle.unify.specs.Unify.{meet-all as meeting-all, pay as paying, rest, clear as clearing, join as joining};
 ghost use Rattle.std.specs.Finite.{All};
-ghost use Rattle.slate.specs.Logic.{cells-of, content-of, Counted, AllCounted, Ready, state};
-ghost use Rattle.slate.specs.Logic.{Given, Stepped, Came, Did, Told};
+ghost use Rattle.slate.specs.Cells.{cells-of, content-of, Counted, AllCounted, Sound};
+ghost use Rattle.slate.specs.Loops.{Ready, state};
+ghost use Rattle.slate.specs.Loops.{Given, Stepped, Came, Did, Told};
 use crate::cell::Cell;
 use crate::cell::Content;
 use leaf::kind::Leaf;
@@ -308,10 +309,10 @@ fn join<L: Leaf>(
 }
 
 // Makes two cells equal where some reading allows it; where none does the joins are taken back.
-pub fn unify<L: Leaf>(cells: &mut [Cell<L>], trail: &mut [u16], a: u16, b: u16) -> bool
+fn unify<L: Leaf>(cells: &mut [Cell<L>], trail: &mut [u16], a: u16, b: u16) -> bool
     requires { ⌜ Given (now cells) (now trail) a b ⌝ }
     ensures did { λ r. ⌜ Did (cells-of (now (cells .entry))) (cells-of (now (cells .exit))) a b r ⌝ }
-    ensures counted { λ _. ⌜ AllCounted (now (cells .exit)) ⌝ }
+    ensures sound { λ _. ⌜ Sound (now (cells .exit)) ⌝ }
 {
     let mut used = 0;
     if join(cells, trail, &mut used, true, a, b) {
@@ -322,14 +323,49 @@ pub fn unify<L: Leaf>(cells: &mut [Cell<L>], trail: &mut [u16], a: u16, b: u16) 
 }
 
 // Says whether every reading gives the two cells the same tree; the cells are left as they were.
-pub fn compare<L: Leaf>(cells: &mut [Cell<L>], trail: &mut [u16], a: u16, b: u16) -> bool
+fn compare<L: Leaf>(cells: &mut [Cell<L>], trail: &mut [u16], a: u16, b: u16) -> bool
     requires { ⌜ Given (now cells) (now trail) a b ⌝ }
     ensures told { λ r. ⌜ Told (cells-of (now (cells .entry))) a b r ⌝ }
     ensures left { λ _. ⌜ cells-of (now (cells .exit)) ≡ cells-of (now (cells .entry)) ⌝ }
-    ensures counted { λ _. ⌜ AllCounted (now (cells .exit)) ⌝ }
+    ensures sound { λ _. ⌜ Sound (now (cells .exit)) ⌝ }
 {
     let mut used = 0;
     let equal = join(cells, trail, &mut used, false, a, b);
     clear(cells, trail, used);
     equal
+}
+
+// Unifies two of the first so many cells.
+pub fn unify_first<L: Leaf>(
+    cells: &mut [Cell<L>],
+    used: usize,
+    trail: &mut [u16],
+    a: u16,
+    b: u16,
+) -> bool
+    requires part { ⌜ used ≤ length (now cells) ⌝ }
+    requires given { ⌜ Given (take used (now cells)) (now trail) a b ⌝ }
+    ensures did { λ r. ⌜ Did (cells-of (take used (now (cells .entry)))) (cells-of (take used (now (cells .exit)))) a b r ⌝ }
+    ensures sound { λ _. ⌜ Sound (take used (now (cells .exit))) ⌝ }
+    ensures as_many { λ _. ⌜ length (now (cells .exit)) ≡ length (now (cells .entry)) ⌝ }
+{
+    unify(&mut cells[..used], trail, a, b)
+}
+
+// Compares two of the first so many cells.
+pub fn compare_first<L: Leaf>(
+    cells: &mut [Cell<L>],
+    used: usize,
+    trail: &mut [u16],
+    a: u16,
+    b: u16,
+) -> bool
+    requires part { ⌜ used ≤ length (now cells) ⌝ }
+    requires given { ⌜ Given (take used (now cells)) (now trail) a b ⌝ }
+    ensures told { λ r. ⌜ Told (cells-of (take used (now (cells .entry)))) a b r ⌝ }
+    ensures left { λ _. ⌜ cells-of (take used (now (cells .exit))) ≡ cells-of (take used (now (cells .entry))) ⌝ }
+    ensures sound { λ _. ⌜ Sound (take used (now (cells .exit))) ⌝ }
+    ensures as_many { λ _. ⌜ length (now (cells .exit)) ≡ length (now (cells .entry)) ⌝ }
+{
+    compare(&mut cells[..used], trail, a, b)
 }

@@ -3,7 +3,7 @@ use native.Mathlib.Omega.{arith}
 use Prim.Native.Nat.{ℕ, _-_, _<_, _≤_}
 use lib.ListN.{length, getD, take}
 use Rattle.unify.specs.Unify.{clear}
-use Rattle.slate.specs.Logic.{cells-of}
+use Rattle.slate.specs.Cells.{cells-of}
 use Rattle.slate.proofs.Steps.{taken-in, one-back}
 use Rattle.slate.proofs.unifier.clear.Needs as need
 

@@ -2,7 +2,7 @@ use mathlib.Core.Path.{_≡_}
 use Prim.Native.Nat.{ℕ, _≤_}
 use lib.ListN.{length, take}
 use Rattle.unify.specs.Unify.{clear}
-use Rattle.slate.specs.Logic.{AllCounted, cells-of}
+use Rattle.slate.specs.Cells.{AllCounted, cells-of}
 use Rattle.slate.proofs.unifier.clear.Given as given
 
 abbrev pub Inv-loop-k : given.InvT-loop-k

@@ -1,10 +1,10 @@
 use mathlib.Core.Path.{_≡_, refl, sym, _∙_, ap, subst}
-use Rattle.slate.specs.Logic.{state}
+use Rattle.slate.specs.Loops.{state}
 use Rattle.slate.proofs.Steps.{start-ready, join-clash, join-went}
 use Rattle.slate.proofs.unifier.join.Needs as need
 
 pub meet-requires : need.meet-requires
-meet-requires g c κs = record { ready = start-ready _ _ (c .pre .solved) (c .pre .counted) (c .pre .list); first = c .pre .first; second = c .pre .second }
+meet-requires g c κs = record { ready = start-ready _ _ (c .pre .sound .solved) (c .pre .sound .counted) (c .pre .list); first = c .pre .first; second = c .pre .second }
 
 pub returns-then-not-meet : need.returns-then-not-meet
 returns-then-not-meet g c = record {

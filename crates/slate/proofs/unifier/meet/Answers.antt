@@ -3,7 +3,8 @@ use mathlib.Core.Bool.{true, false}
 use Prim.Native.Nat.{ℕ, _<_, _≤_}
 use native.Mathlib.Omega.{arith}
 use lib.ListN.{length}
-use Rattle.slate.specs.Logic.{state, cells-of, moved}
+use Rattle.slate.specs.Cells.{cells-of}
+use Rattle.slate.specs.Loops.{state, moved}
 use Rattle.unify.specs.Unify.{meet, went}
 use Rattle.unify.specs.Steady.{StaysSteady, reached}
 use Rattle.unify.proofs.Steadiness.{meet-steady}

@@ -2,7 +2,7 @@ use mathlib.Core.Path.{_≡_, refl, sym, _∙_, ap, subst}
 use native.Mathlib.Omega.{arith}
 use Prim.Native.Nat.{ℕ, _<_, _≤_, min}
 use lib.ListN.{length, getD}
-use Rattle.slate.specs.Logic.{state}
+use Rattle.slate.specs.Loops.{state}
 use Rattle.slate.proofs.Steps.{all-at, one-pair, one-clash, no-pair}
 use Rattle.slate.proofs.unifier.meet_all.Needs as need
 

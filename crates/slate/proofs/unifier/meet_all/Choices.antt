@@ -2,7 +2,7 @@ use mathlib.Core.Path.{_≡_}
 use Prim.Native.Nat.{ℕ, _<_}
 use lib.ListN.{length, drop}
 use Rattle.unify.specs.Unify.{meet-all}
-use Rattle.slate.specs.Logic.{Ready, state}
+use Rattle.slate.specs.Loops.{Ready, state}
 use Rattle.slate.proofs.unifier.meet_all.Given as given
 
 abbrev pub Inv-loop-k : given.InvT-loop-k

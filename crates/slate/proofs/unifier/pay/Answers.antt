@@ -4,7 +4,7 @@ use Prim.Native.Nat.{ℕ, _<_, _≤_}
 use lib.ListN.{length}
 use Rattle.unify.specs.Unify.{meet-arguments}
 use Rattle.slate.specs.declared.cell.Content.the-variants.{Open, Leaf, Node}
-use Rattle.slate.specs.Logic.{state}
+use Rattle.slate.specs.Loops.{state}
 use Rattle.slate.proofs.Steps.{joined-inside, node-inside, paying, not-paying}
 use Rattle.slate.proofs.unifier.pay.Needs as need
 

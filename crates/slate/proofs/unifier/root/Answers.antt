@@ -4,7 +4,7 @@ use Prim.Native.Nat.{_<_, _≤_}
 use lib.ListN.{length, length-map}
 use Rattle.unify.specs.Cells.{joined-at, root}
 use Rattle.unify.proofs.Roots.{root-some, root-none, target-inside}
-use Rattle.slate.specs.Logic.{cell-of, cells-of}
+use Rattle.slate.specs.Cells.{cell-of, cells-of}
 use Rattle.slate.proofs.unifier.root.Needs as need
 
 -- src/lib.rt:47:5

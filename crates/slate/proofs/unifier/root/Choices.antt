@@ -2,7 +2,7 @@ use mathlib.Core.Path.{_≡_}
 use Prim.Native.Nat.{_<_}
 use lib.ListN.{length}
 use Rattle.unify.specs.Cells as C
-use Rattle.slate.specs.Logic.{cells-of}
+use Rattle.slate.specs.Cells.{cells-of}
 use Rattle.slate.proofs.unifier.root.Given as given
 
 abbrev pub Inv-loop-next : given.InvT-loop-next

@@ -2,7 +2,7 @@ use mathlib.Core.Path.{_≡_, refl, sym, _∙_, ap, subst}
 use native.Mathlib.Omega.{arith}
 use Prim.Native.Nat.{ℕ, _+_, _<_, _≤_}
 use lib.ListN.{length}
-use Rattle.slate.specs.Logic.{state}
+use Rattle.slate.specs.Loops.{state}
 use Rattle.slate.proofs.Steps.{entry-in, few-turns, end-of-trail, turn-went, turn-clash}
 use Rattle.slate.proofs.unifier.settle.Needs as need
 

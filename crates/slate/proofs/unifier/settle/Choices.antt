@@ -2,7 +2,7 @@ use mathlib.Core.Path.{_≡_}
 use Prim.Native.Nat.{ℕ, _≤_, _-_}
 use lib.ListN.{length}
 use Rattle.unify.specs.Unify.{rest}
-use Rattle.slate.specs.Logic.{Ready, state}
+use Rattle.slate.specs.Loops.{Ready, state}
 use Rattle.slate.proofs.unifier.settle.Given as given
 
 abbrev pub Inv-loop-place : given.InvT-loop-place
