@@ -8,3 +8,4 @@ pub mod Standing
 pub mod Unused
 pub mod Next
 pub mod Answering
+pub mod Questions

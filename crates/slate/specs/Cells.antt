@@ -6,6 +6,10 @@ use Rattle.std.specs.Finite.{All}
 use Rattle.slate.specs.declared.cell.Content.{Content}
 use Rattle.slate.specs.declared.cell.Content.the-variants.{Open, Leaf, Node}
 use Rattle.slate.specs.declared.cell.Cell.{Cell}
+use Rattle.slate.specs.declared.cell.CellKind.{CellKind}
+use Rattle.slate.specs.declared.cell.CellKind.the-variants as K
+use Rattle.std.specs.declared.option.Option.{Option}
+use Rattle.std.specs.declared.option.Option.the-variants.{Some, None}
 use Rattle.unify.specs.Cells as C
 use Rattle.unify.specs.Cells.{variable, leaf, node}
 use Rattle.unify.specs.Solved.{Solved}
@@ -39,6 +43,21 @@ AllCounted cells = All (λ c. Counted (c .content)) cells
 pub record Sound {L : Type 0} (cells : List (Cell L)) : Type 0 where
   pub solved : Solved (cells-of cells)
   pub counted : AllCounted cells
+
+-- what a cell that is joined to none is
+abbrev pub kind-written : {L : Type 0} → Content L → CellKind
+kind-written Open = K.Open
+kind-written (Leaf v) = K.Leaf
+kind-written (Node symbol arguments count) = K.Node
+
+-- what a cell is that may be joined
+abbrev pub kind-joined : {L : Type 0} → Option ℕ → Content L → CellKind
+kind-joined None c = kind-written c
+kind-joined (Some j) c = K.Joined
+
+-- what a cell is
+abbrev pub kind-of : {L : Type 0} → Cell L → CellKind
+kind-of c = kind-joined (c .joined) (c .content)
 
 -- what was written, as a sitting has it
 abbrev pub content-lying : {L : Type 0} → C.Content L → T.Content L

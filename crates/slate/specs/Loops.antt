@@ -9,6 +9,7 @@ use Rattle.unify.specs.Cells as C
 use Rattle.unify.specs.Unify.{State, Move, went, clash}
 use Rattle.unify.specs.Steady.{Steady}
 use Rattle.unify.specs.Solved.{Solved}
+use Rattle.unify.specs.Theorems.{IsNode}
 use Rattle.unify.specs.Meaning.{Means}
 use Rattle.slate.specs.declared.cell.Cell.{Cell}
 use Rattle.slate.specs.Cells.{cells-of, AllCounted, Sound}
@@ -63,3 +64,8 @@ Did {L} old new a b false = (new ≡ old) ×
 abbrev pub Told : {L : Type 0} → List (C.Cell L) → ℕ → ℕ → Bool → Type 0
 Told {L} old a b true = (es : List (Equation L ℕ)) → Means old es → Entails es a b
 Told {L} old a b false = (es : List (Equation L ℕ)) → Means old es → Entails es a b → ⊥
+
+-- whether a node was written
+abbrev pub TellsNode : {L : Type 0} → C.Content L → Bool → Type 0
+TellsNode c true = IsNode c
+TellsNode c false = IsNode c → ⊥

@@ -1,25 +1,30 @@
 -- Slates, and what each call on one keeps.
 use mathlib.Core.Path.{_≡_}
 use mathlib.Core.Bool.{Bool, true, false}
-use mathlib.Core.List.{List, map}
+use mathlib.Core.List.{List, [], map}
 use Prim.Native.Nat.{ℕ, _*_, _<_, _≤_}
 use lib.ListN.{take}
 use Rattle.std.specs.Of.Vec.{vec-len, vec-items}
 use Rattle.std.specs.declared.option.Option.the-variants.{Some, None}
 use Rattle.std.specs.declared.result.Result.{Result}
 use Rattle.std.specs.declared.result.Result.the-variants.{Ok, Err}
+use Rattle.std.specs.Finite.{nth}
+use Rattle.theory.specs.Equations.{IsAtom}
 use Rattle.theory.specs.Entries.{Entry}
+use Rattle.theory.specs.Check.{If}
 use Rattle.theory.specs.Calls.{Call, Answer, wrote, accepted, same, different, grants, fails, passes, refused}
 use Rattle.theory.specs.Answers.{capacity, first-unused}
-use Rattle.theory.specs.Carried.{RightCall}
+use Rattle.theory.specs.Known.{Known, nothing}
+use Rattle.theory.specs.Carried.{StandsFor, RightCall}
 use Rattle.theory.specs.Carried as T
 use Rattle.unify.specs.Cells as C
+use Rattle.unify.specs.Cells.{root, joined-at}
 use Rattle.unify.specs.Writing.{write}
 use Rattle.slate.specs.declared.cell.Cell.{Cell}
 use Rattle.slate.specs.declared.refusal.Refusal.{Refusal}
 use Rattle.slate.specs.declared.refusal.Refusal.the-variants.{NotInUse, TooShort, NoCell}
 use Rattle.slate.specs.declared.slate.Slate.{Slate}
-use Rattle.slate.specs.Cells.{cells-of, lying}
+use Rattle.slate.specs.Cells.{cell-of, cells-of, lying, Counted}
 use Rattle.slate.specs.Refusals.{refusal-of}
 
 -- how many cells were supplied
@@ -51,6 +56,11 @@ pub record Kept {L : Type 0} (old new : Slate L) (c : Call L) (a : Answer) : Typ
   pub right : (book : List (Entry L)) → RightCall book (supplied old) (on-slate old) c a (on-slate new)
   pub as-many : supplied new ≡ supplied old
   pub unaltered : Refuses a → in-use new ≡ in-use old
+
+-- no cell is in use, and the slate stands for what is known at the start of a sitting
+pub record Wiped {L : Type 0} (s : Slate L) : Type 0 where
+  pub none : in-use s ≡ []
+  pub begins : StandsFor (on-slate s) nothing
 
 -- the answer of a write
 abbrev pub wrote-or : Result ℕ Refusal → Answer
@@ -84,3 +94,19 @@ AllInUse used cs (Err e) = (c : ℕ) × (e ≡ NotInUse c) × (first-unused used
 abbrev pub LongEnough : {U : Type 0} → ℕ → ℕ → Result U Refusal → Type 0
 LongEnough cells work (Ok u) = 9 * capacity cells ≤ work
 LongEnough cells work (Err e) = (e ≡ TooShort) × (work < 9 * capacity cells)
+
+-- what is read from a cell: what was written into it and what it is joined to; or that it is not in use
+abbrev pub Reads : {L : Type 0} → Slate L → ℕ → Result (Cell L) Refusal → Type 0
+Reads s i (Ok c) = (nth (in-use s) i ≡ Some (cell-of c)) × Counted (c .content)
+Reads s i (Err e) = (e ≡ NotInUse i) × (s .used ≤ i)
+
+-- the end of a cell's chain of joins; or that the cell is not in use
+abbrev pub Leads : {L : Type 0} → Slate L → ℕ → Result ℕ Refusal → Type 0
+Leads s i (Ok r) = (i < s .used) × (r < s .used) × (r ≡ root (in-use s) i) × (joined-at (in-use s) r ≡ None)
+Leads s i (Err e) = (e ≡ NotInUse i) × (s .used ≤ i)
+
+-- whether a term is an atom, by whatever the slate stands for; or that the cell is not in use
+abbrev pub TellsAtom : {L : Type 0} → Slate L → ℕ → Result Bool Refusal → Type 0
+TellsAtom {L} s i (Ok b) = (i < s .used) ×
+    ((k : Known L) → StandsFor (on-slate s) k → If (IsAtom (k .equations) i) (b ≡ true) (b ≡ false))
+TellsAtom s i (Err e) = (e ≡ NotInUse i) × (s .used ≤ i)

@@ -1,4 +1,6 @@
 // The cells of a slate.
+ghost use mathlib.Core.Path.{_≡_};
+ghost use Rattle.slate.specs.Cells.{kind-of};
 
 // What was written into a cell: nothing, so that it is open, a leaf, or a node over other cells, of whose
 // four places the first so many count.
@@ -18,4 +20,29 @@ pub enum Content<L> {
 pub struct Cell<L> {
     pub content: Content<L>,
     pub joined: Option<u16>,
+}
+
+// What a cell is: open, a leaf, a node, or joined to another cell.
+#[derive(Clone, Copy, PartialEq, Eq, Debug)]
+pub enum CellKind {
+    Open,
+    Leaf,
+    Node,
+    Joined,
+}
+
+impl<L> Cell<L> {
+    // Tells what the cell is.
+    pub fn kind(&self) -> CellKind
+        ensures { λ r. ⌜ r ≡ kind-of (now (self .entry)) ⌝ }
+    {
+        if self.joined.is_some() {
+            return CellKind::Joined;
+        }
+        match &self.content {
+            Content::Open => CellKind::Open,
+            Content::Leaf(_) => CellKind::Leaf,
+            Content::Node { .. } => CellKind::Node,
+        }
+    }
 }

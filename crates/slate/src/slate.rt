@@ -1,4 +1,5 @@
 // A slate: supplied cells, of which the first so many are in use.
+pub mod questions;
 pub mod terms;
 pub mod writes;
 

@@ -13,7 +13,7 @@ ghost use Rattle.unify.specs.Unify.{meet-all as meeting-all, pay as paying, res
 ghost use Rattle.std.specs.Finite.{All};
 ghost use Rattle.slate.specs.Cells.{cells-of, content-of, Counted, AllCounted, Sound};
 ghost use Rattle.slate.specs.Loops.{Ready, state};
-ghost use Rattle.slate.specs.Loops.{Given, Stepped, Came, Did, Told};
+ghost use Rattle.slate.specs.Loops.{Given, Stepped, Came, Did, Told, TellsNode};
 use crate::cell::Cell;
 use crate::cell::Content;
 use leaf::kind::Leaf;
@@ -368,4 +368,30 @@ pub fn compare_first<L: Leaf>(
     ensures as_many { λ _. ⌜ length (now (cells .exit)) ≡ length (now (cells .entry)) ⌝ }
 {
     compare(&mut cells[..used], trail, a, b)
+}
+
+// The root of one of the first so many cells.
+pub fn root_first<L: Leaf>(cells: &[Cell<L>], used: usize, i: u16) -> u16
+    requires part { ⌜ used ≤ length (now cells) ⌝ }
+    requires sound { ⌜ Sound (take used (now cells)) ⌝ }
+    requires inside { ⌜ i < used ⌝ }
+    ensures is { λ r. ⌜ r ≡ root-of (cells-of (take used (now (cells .entry)))) i ⌝ }
+    ensures inside { λ r. ⌜ r < used ⌝ }
+{
+    root(&cells[..used], i)
+}
+
+// Says whether a node stands at the root of one of the first so many cells.
+pub fn node_at_root<L: Leaf>(cells: &[Cell<L>], used: usize, i: u16) -> bool
+    requires part { ⌜ used ≤ length (now cells) ⌝ }
+    requires sound { ⌜ Sound (take used (now cells)) ⌝ }
+    requires inside { ⌜ i < used ⌝ }
+    ensures { λ r. ⌜ TellsNode (content-at (cells-of (take used (now (cells .entry)))) (root-of (cells-of (take used (now (cells .entry)))) i)) r ⌝ }
+{
+    let r = root_first(cells, used, i);
+    match written(&cells[..used], r) {
+        Content::Open => false,
+        Content::Leaf(_) => false,
+        Content::Node { .. } => true,
+    }
 }

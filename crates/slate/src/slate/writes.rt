@@ -1,6 +1,5 @@
 // Making a slate, wiping it, and writing into it.
 ghost use mathlib.Core.Path.{_≡_};
-ghost use mathlib.Core.List.{[]};
 ghost use Prim.Native.Nat.{_≤_, _<_};
 ghost use lib.ListN.{length, set, take};
 ghost use Rattle.std.specs.Of.Vec.{vec-len};
@@ -8,7 +7,7 @@ ghost use Rattle.std.specs.declared.option.Option.the-variants.{None};
 ghost use Rattle.theory.specs.Calls.{write-open, write-leaf, write-node};
 ghost use Rattle.unify.specs.Writing.{Writable};
 ghost use Rattle.slate.specs.Cells.{content-of, Counted};
-ghost use Rattle.slate.specs.Slates.{in-use, supplied, Kept, wrote-or, Written};
+ghost use Rattle.slate.specs.Slates.{in-use, supplied, Wiped, Kept, wrote-or, Written};
 use crate::cell::Cell;
 use crate::cell::Content;
 use crate::refusal::Refusal;
@@ -41,14 +40,16 @@ fn packed(args: &[u16]) -> [u16; 4]
 impl<L: Leaf> Slate<L> {
     // A wiped slate on the supplied cells.
     pub fn new(cells: Vec<Cell<L>>) -> Slate<L>
-        ensures { λ r. ⌜ (in-use r ≡ []) × (supplied r ≡ vec-len cells) ⌝ }
+        ensures wiped { λ r. ⌜ Wiped r ⌝ }
+        ensures as_many { λ r. ⌜ supplied r ≡ vec-len cells ⌝ }
     {
         Slate { cells, used: 0 }
     }
 
     // Puts every cell out of use.
     pub fn wipe(&mut self)
-        ensures { λ _. ⌜ (in-use (now (self .exit)) ≡ []) × (supplied (now (self .exit)) ≡ supplied (now (self .entry))) ⌝ }
+        ensures wiped { λ _. ⌜ Wiped (now (self .exit)) ⌝ }
+        ensures as_many { λ _. ⌜ supplied (now (self .exit)) ≡ supplied (now (self .entry)) ⌝ }
     {
         self.used = 0;
     }
