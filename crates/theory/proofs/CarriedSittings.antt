@@ -15,7 +15,7 @@ use Rattle.theory.proofs.LawOfSittings.{law}
 
 -- no cells stand for nothing
 pub wiped : {V : Type 0} → StandsFor {V = V} [] nothing
-wiped = record { used = refl; readings = λ ρ trees. (λ m. m, λ m. m); nodes = λ i f xs e. absurd (none-some e) }
+wiped = record { used = refl; readings = λ ρ trees. (λ m. m, λ m. m); nodes = λ i c f xs e p. absurd (none-some e) }
 
 module _ {V : Type 0} (book : List (Entry V)) where
   -- what is known after one more event

@@ -1,0 +1,4 @@
+pub mod Cells
+pub mod Loops
+pub mod Refusals
+pub mod Slates
