@@ -17,6 +17,7 @@ use wire::byte_book::ByteBook;
 use wire::byte_book::ByteBookBook;
 use wire::inspect::inspect;
 use wire::lines::last_text;
+use wire::writer::write;
 
 // The value of a hexadecimal digit.
 fn digit(byte: u8) -> Result<u8, AnyError> {
@@ -54,12 +55,25 @@ fn expand(heap: Global, words: &str) -> Result<Vec<u8>, AnyError> {
     Ok(bytes)
 }
 
-// Lists one book, and holds what `inspect` says against it.
+// Whether the writer gives back the bytes before the first fault, and all of them where there is none.
+fn writes_back<L: WireLeaf>(heap: Global, book: &ByteBook<L>, bytes: &[u8]) -> Result<bool, AnyError> {
+    let mut out = vec![in heap; 0; bytes.len()]?;
+    let whole = book.fault().is_none();
+    match write::<L, ByteBookBook<L>>(book, &mut out) {
+        Ok(count) => Ok(count <= bytes.len() && out.as_slice().starts_with(&bytes[0..count]) && (!whole || count == bytes.len())),
+        Err(_) => Ok(false),
+    }
+}
+
+// Lists one book, and holds what `inspect` says and what the writer writes against it.
 fn trial<L: WireLeaf>(rt: &LibcRuntime, number: usize, bytes: &[u8]) -> Result<(), AnyError> {
     let book = ByteBook::<L>::open(rt.alloc(), bytes)?;
     let fault = book.fault();
     if inspect::<L>(bytes) != fault {
         return Err("inspect disagrees with the book".into());
+    }
+    if !writes_back::<L>(rt.alloc(), &book, bytes)? {
+        return Err("the writer does not give the bytes back".into());
     }
     let count = book.len();
     let last = last_text(rt.alloc(), count, fault)?;

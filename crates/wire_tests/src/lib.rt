@@ -1,0 +1,3 @@
+// Tests of books in bytes.
+#[cfg(test)]
+mod tests;
