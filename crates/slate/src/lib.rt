@@ -1,6 +1,10 @@
 // Slates: terms in supplied cells, written, equated and compared.
 pub mod cell;
+mod chains;
+mod input;
+mod joins;
+pub mod limits;
 pub mod refusal;
 pub mod slate;
-mod tests_of_input;
+mod undo;
 mod unifier;

@@ -4,10 +4,10 @@ ghost use Prim.Native.Nat.{_<_};
 ghost use lib.ListN.{length, getD};
 ghost use Rattle.slate.specs.Slates.{in-use, Reads, Leads, TellsAtom};
 use crate::cell::Cell;
+use crate::chains::node_at_root;
+use crate::chains::root_first;
 use crate::refusal::Refusal;
 use crate::slate::Slate;
-use crate::unifier::node_at_root;
-use crate::unifier::root_first;
 use leaf::kind::Leaf;
 
 // What lies at a place.
@@ -25,7 +25,8 @@ impl<L: Leaf> Slate<L> {
         ensures is { λ r. ⌜ r ≡ length (in-use (now (self .entry))) ⌝ }
         ensures unchanged { λ _. ⌜ now (self .exit) ≡ now (self .entry) ⌝ }
     {
-        self.used
+        let used = self.used;
+        used
     }
 
     // Reads a cell.

@@ -10,9 +10,11 @@ ghost use Rattle.slate.specs.Cells.{content-of, Counted};
 ghost use Rattle.slate.specs.Slates.{in-use, supplied, Wiped, Kept, wrote-or, Written};
 use crate::cell::Cell;
 use crate::cell::Content;
+use crate::limits::MOST_ARGUMENTS;
+use crate::limits::MOST_CELLS;
 use crate::refusal::Refusal;
 use crate::slate::Slate;
-use crate::tests_of_input::all_in_use;
+use crate::input::all_in_use;
 use leaf::kind::Leaf;
 
 // Writes into a cell, which is joined to none.
@@ -61,7 +63,7 @@ impl<L: Leaf> Slate<L> {
         ensures { λ r. ⌜ Written (now (self .entry)) (now (self .exit)) (content-of content) r ⌝ }
     {
         let used = self.used;
-        if self.cells.len().min(2048) <= used {
+        if self.cells.len().min(MOST_CELLS) <= used {
             return Err(Refusal::NoCell);
         }
         put(self.cells.as_mut_slice(), used, content);
@@ -87,7 +89,7 @@ impl<L: Leaf> Slate<L> {
     pub fn node(&mut self, symbol: u16, args: &[u16]) -> Result<u16, Refusal>
         ensures { λ r. ⌜ Kept (now (self .entry)) (now (self .exit)) (write-node symbol (now (args .entry))) (wrote-or r) ⌝ }
     {
-        if 4 < args.len() {
+        if args.len() > MOST_ARGUMENTS {
             return Err(Refusal::TooManyArguments);
         }
         all_in_use(self.used, args)?;
