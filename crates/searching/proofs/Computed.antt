@@ -4,7 +4,6 @@ use mathlib.Core.List.{List, map}
 use Rattle.std.specs.declared.option.Option.{Option}
 use Rattle.std.specs.declared.option.Option.the-variants.{Some}
 use Rattle.theory.specs.Calls.{Event}
-use Rattle.theory.specs.Worked.{NoLeaf}
 use Rattle.unify.specs.Cells.{content-at, joined-at, rejoin, rank, chase, root}
 use Rattle.unify.specs.Unify.{start, link, link-down, next, after, fits, link-if, meet-roots, meet, meet-all}
 use Rattle.unify.specs.Unify.{meet-arguments, pay-to, pay, turn, settle, rest, join, unify, compare}
