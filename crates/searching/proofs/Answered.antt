@@ -244,7 +244,8 @@ module _ {V : Type 0} (alike : V → V → Bool) (law : Decides alike) (book : L
         Q z = (o : Outcome) × Solve book es (limits supplied k b s) goals o × (z ≡ answer-of o)
 
         left : (e : Ended V) → Searched book k (limits supplied k b s) goals e → (o : Outcome) →
-            e .outcome ≡ o → Holds (left-by cells (e .last .cells) o) (after book k (solve goals b s w f) (answer-of o))
+            e .outcome ≡ o →
+            Holds (left-by cells (e .last .cells) o) (after book k (solve goals b s w f) (answer-of o))
         left e z (granted n steps) p = z .cells n steps p
         left e z (failed n) p = here
         left e z (spent n) p = here
@@ -273,9 +274,12 @@ module _ {V : Type 0} (alike : V → V → Bool) (law : Decides alike) (book : L
         let v : Verdict = checks alike book (length cells) (capacity supplied - length cells) cells goals steps in
         given (check goals steps w f)
         (λ z. (v : Verdict) × Check book es (capacity supplied - length cells) goals steps v × (z ≡ answer-to v))
-        (answer-to v) cells
-        (v, checked alike law book rules k sound cells here goals in-use (capacity supplied - length cells) fits steps,
-        refl)
+        (answer-to v) cells (
+          v,
+          checked alike law book rules k sound cells here goals in-use (capacity supplied - length cells) fits
+              steps,
+          refl,
+        )
         here a q
 
     -- a node
@@ -305,7 +309,8 @@ module _ {V : Type 0} (alike : V → V → Bool) (law : Decides alike) (book : L
         λ z. If (Solvable (es ++ (equal x y ∷ []))) (z ≡ accepted) (z ≡ refused Refusal.clash) in
         let Q₂ : Answer → Type 0 = λ z. If (work < n) (z ≡ refused too-short) (Q₁ z) in
         used-right c (λ r. here) (x ∷ y ∷ []) Q₂ _ a
-        (λ u. refusing-right c (λ r. here) (work < n) too-short Q₁ (ltb work n) (below work n) (not-below work n) _ a
+        (λ u. refusing-right c (λ r. here) (work < n) too-short Q₁ (ltb work n) (below work n) (not-below work n)
+        _ a
         (unifying-right x y work (u .0) (u .1 .0) a)) q
 
     -- a compare
@@ -319,7 +324,8 @@ module _ {V : Type 0} (alike : V → V → Bool) (law : Decides alike) (book : L
         let Q₁ : Answer → Type 0 = λ z. If (Entails es x y) (z ≡ same) (z ≡ different) in
         let Q₂ : Answer → Type 0 = λ z. If (work < n) (z ≡ refused too-short) (Q₁ z) in
         used-right c (λ r. here) (x ∷ y ∷ []) Q₂ _ a
-        (λ u. refusing-right c (λ r. here) (work < n) too-short Q₁ (ltb work n) (below work n) (not-below work n) _ a
+        (λ u. refusing-right c (λ r. here) (work < n) too-short Q₁ (ltb work n) (below work n) (not-below work n)
+        _ a
         (comparing-right x y work (u .0) (u .1 .0) a)) q
 
     -- a solve
@@ -340,7 +346,8 @@ module _ {V : Type 0} (alike : V → V → Bool) (law : Decides alike) (book : L
         (used-right c (λ r. here) goals Q₃ _ a
         (λ u. atoms-right c (λ r. here) goals Q₂ _ a
         (refusing-right c (λ r. here) ((work < n) ⊎ (frames < served s)) too-short Q₁
-        (ltb work n || ltb frames (served s)) (either work n frames (served s)) (neither work n frames (served s)) _ a
+        (ltb work n || ltb frames (served s)) (either work n frames (served s))
+        (neither work n frames (served s)) _ a
         (searching-right goals b s work frames u a)))) q
 
     -- a check

@@ -115,7 +115,8 @@ module _ {V : Type 0} (known : List (Equation V ℕ)) (used : ℕ) where
       map-append (rename ψ) (made n e) end ∙ (λ i. b i ++ c i) in
       let all : map (rename ψ) (r .equations ++ (made n e ++ end)) ≡ old ++ (new ++ last) =
       map-append (rename ψ) (r .equations) (made n e ++ end) ∙ (λ i. a i ++ tail i) in
-      append-assoc (known ++ old) new last ∙ (append-assoc known old (new ++ last) ∙ ap (λ l. known ++ l) (sym all))
+      append-assoc (known ++ old) new last
+      ∙ (append-assoc known old (new ++ last) ∙ ap (λ l. known ++ l) (sym all))
 
   -- what is laid out after a step that closes a loop
   close-laid : (r : Replay V) → Scoped r → (g : Goal) (rest : List Goal) (n : ℕ) → r .pending ≡ g ∷ rest →
@@ -244,7 +245,8 @@ module _ {V : Type 0} (same : V → V → Bool) (law : Decides same) (book : Lis
       all-or (Within (length (r .taken))) (r .taken) (g .term) (k .scoped .taken) w n in
       let end : List (Equation V Term) = equal (g .term) t ∷ [] in
       let ends : All (Names (λ x. placed used (m .offsets) x < used + m .cells)) end =
-      all-right (Names (λ x. placed used (m .offsets) x < used + m .cells)) (r .equations) end (low-terms m ys l) in
+      all-right (Names (λ x. placed used (m .offsets) x < used + m .cells)) (r .equations) end
+      (low-terms m ys l) in
       let ga : placed used (r .offsets) (g .term) < used + r .cells =
       subst (λ j. j < used + r .cells) (old-at known used r (k .scoped) (g .term) w) (ends .0 .0) in
       let hb : placed used (r .offsets) t < used + r .cells =

@@ -55,7 +55,8 @@ module _ {V : Type 0} (same : V → V → Bool) (law : Decides same) (book : Lis
     -- the step leaves a reading or none
     move-right : (m : Replay V) (t : Move V) →
         Comes same law book rules known used low goals in-use m (before ++ (x ∷ [])) t →
-        If (Solvable (together known m)) (CheckFrom book known free m (suc i) xs (check-move same book used free go i m t))
+        If (Solvable (together known m))
+        (CheckFrom book known free m (suc i) xs (check-move same book used free go i m t))
         (check-move same book used free go i m t ≡ unlawful i 7)
     unfolding check-move
     move-right m (Move.went t) c = inl (c .0, right (before ++ (x ∷ [])) (t .cells) m (suc i) (c .1))
@@ -71,7 +72,8 @@ module _ {V : Type 0} (same : V → V → Bool) (law : Decides same) (book : Lis
     goal-right m w h [] p = absurd (has-goal book r x m (took book r x m w) p)
     goal-right m w h (g ∷ rest) p =
         move-right m (attempt same book used cells r g (x .mode) (x .number))
-        (attempt-right same law book rules known used low goals in-use r before cells k g rest p x m w (omega arith))
+        (attempt-right same law book rules known used low goals in-use r before cells k g rest p x m w
+        (omega arith))
 
     -- the instance fits or does not
     cells-right : (m : Replay V) → step book r x ≡ Replayed.went m → (b : Bool) → ltb free (m .cells) ≡ b →

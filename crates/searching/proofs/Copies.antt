@@ -38,7 +38,8 @@ module _ {V : Type 0} (b c : ℕ) where
       (es ++ and-content n (content-of (there b c) p) []) ++ map (rename (there b c)) (instance-of ps (suc j))
       ≡ es ++ map (rename (there b c)) (instance-of (p ∷ ps) j)
   unfolding content-of
-  new-front es j n e Part.variable ps = ap (λ l. l ++ map (rename (there b c)) (instance-of ps (suc j))) (append-nil es)
+  new-front es j n e Part.variable ps =
+      ap (λ l. l ++ map (rename (there b c)) (instance-of ps (suc j))) (append-nil es)
   new-front es j n e (Part.leaf v) ps =
       append-assoc es (is-leaf n v ∷ []) (map (rename (there b c)) (instance-of ps (suc j)))
       ∙ ap (λ k. es ++ (is-leaf k v ∷ map (rename (there b c)) (instance-of ps (suc j)))) e
@@ -75,5 +76,6 @@ module _ {V : Type 0} (b c : ℕ) where
         solved = i .solved;
         number = i .number ∙ (ap (λ k. k + length ps) l ∙ omega arith);
         means =
-            subst (Means (copied (there b c) (write cells q) ps)) (new-front es j (length cells) n p ps) (i .means);
+            subst (Means (copied (there b c) (write cells q) ps)) (new-front es j (length cells) n p ps)
+            (i .means);
       }

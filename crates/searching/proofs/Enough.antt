@@ -25,7 +25,8 @@ use Rattle.searching.specs.Trying.{attempt}
 use Rattle.searching.specs.Solving.{Spot, Ended, Goes, spot, by-move, by-cells, by-step, by-room, by-budget}
 use Rattle.searching.specs.Solving.{by-below, by-left, by-pending, searches, solves, first-point}
 use Rattle.searching.specs.Answering.{Answered, refusing, if-used, if-atoms, next-cell, if-small, by-unifying}
-use Rattle.searching.specs.Answering.{by-comparing, by-searching, limits-of, writes, answers, before, next-call, sits}
+use Rattle.searching.specs.Answering.{by-comparing, by-searching, limits-of, writes, answers, before, next-call}
+use Rattle.searching.specs.Answering.{sits}
 use Rattle.searching.specs.Theorems.{Enough, Turns-suffice}
 
 -- something comes out
@@ -82,7 +83,8 @@ module _ {V : Type 0} (same : V → V → Bool) (book : List (Entry V)) (used : 
           Comes (by-cells same book used lim go s below n g x xs m b)
       unfolding by-cells
       cells-end h m true = (_, refl)
-      cells-end h m false = move-ends h m (attempt same book used (s .cells) (s .point .at) g (x .mode) (x .number))
+      cells-end h m false =
+          move-ends h m (attempt same book used (s .cells) (s .point .at) g (x .mode) (x .number))
 
       -- the step breaks no rule
       step-ends : n < lim .budget →

@@ -98,8 +98,8 @@ module _ {V : Type 0} (same : V → V → Bool) (law : Decides same) (book : Lis
           let h : m .cells ≤ lim .free = ltb-false (lim .free) (m .cells) b in
           move-right x xs m (attempt same book used (s .cells) (s .point .at) g (x .mode) (x .number))
           (record { next = l; after = w; budget = u; room = v; cells = h })
-          (attempt-right same law book rules known used low goals in-use (s .point .at) (s .point .steps) (s .cells)
-          k g rest p x m w (omega arith)) q
+          (attempt-right same law book rules known used low goals in-use (s .point .at) (s .point .steps)
+          (s .cells) k g rest p x m w (omega arith)) q
 
       -- the step keeps the rules
       step-right : n ≢ lim .budget → length (s .point .steps) < lim .room →
@@ -163,7 +163,8 @@ module _ {V : Type 0} (same : V → V → Bool) (law : Decides same) (book : Lis
   unfolding searches
   searches-right zero s below n k ks e q = absurd (none-some q)
   searches-right (suc t) s below n k ks e q =
-      pending-right (searches same book used lim t) (searches-right t) s below n k ks e (s .point .at .pending) refl q
+      pending-right (searches same book used lim t) (searches-right t) s below n k ks e (s .point .at .pending)
+      refl q
 
   -- the search for a record of the goals
   pub solves-right : (turns : ℕ) (cells : List (Cell V)) →

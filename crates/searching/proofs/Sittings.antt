@@ -58,8 +58,8 @@ module _ {V : Type 0} (same : V → V → Bool) (law : Decides same) (book : Lis
   call-right c cs go right past r cells k (Some a) e h q =
       let k₀ : Known V = known book past in
       let x : Event V = record { call = c; answer = a .answer } in
-      let w = answers-right V same law book rules supplied turns k₀ (sound-right book rules supplied past r) cells k c a
-      e in
+      let w = answers-right V same law book rules supplied turns k₀ (sound-right book rules supplied past r) cells
+      k c a e in
       let n : known book (past ++ (x ∷ [])) ≡ after book k₀ c (a .answer) = known-push book nothing past x in
       before-right k₀ c (a .answer) cs (w .0) (go (a .cells))
       (λ t p. subst (λ z. Comes-to cs z t) n

@@ -46,7 +46,7 @@ eqb-decides = record { yields = eqb-true; denies = eqb-false }
 no-entries : BookRules {V = ℕ} []
 no-entries = record { few = lit≤ tt; entries = tt }
 
--- the entries of book A keep the rules
+-- the co-fact of book A keeps the rules
 q-fact-rules : EntryRules q-fact
 q-fact-rules = record {
   some-part = lit≤ tt;
@@ -58,6 +58,7 @@ q-fact-rules = record {
   no-body = refl;
 }
 
+-- so does its clause for p
 p-clause-rules : EntryRules p-clause
 p-clause-rules = record {
   some-part = lit≤ tt;
@@ -72,6 +73,7 @@ p-clause-rules = record {
   no-body = tt;
 }
 
+-- and its clause for q
 q-clause-rules : EntryRules q-clause
 q-clause-rules = record {
   some-part = lit≤ tt;
@@ -89,15 +91,15 @@ q-clause-rules = record {
   no-body = tt;
 }
 
--- so does book A
+-- book A keeps the rules
 book-a-rules : BookRules book-a
 book-a-rules = record { few = lit≤ tt; entries = (q-fact-rules, (p-clause-rules, (q-clause-rules, tt))) }
 
--- and without its co-fact
+-- and does so without its co-fact
 without-rules : BookRules (p-clause ∷ q-clause ∷ [])
 without-rules = record { few = lit≤ tt; entries = (p-clause-rules, (q-clause-rules, tt)) }
 
--- the entries of book F keep the rules
+-- the co-fact of book F keeps the rules
 fine-fact-rules : EntryRules fine-fact
 fine-fact-rules = record {
   some-part = lit≤ tt;
@@ -109,6 +111,7 @@ fine-fact-rules = record {
   no-body = refl;
 }
 
+-- so does its clause for a run
 fine-clause-rules : EntryRules fine-clause
 fine-clause-rules = record {
   some-part = lit≤ tt;
@@ -132,6 +135,7 @@ fine-clause-rules = record {
   no-body = tt;
 }
 
+-- and its clause for a word
 ok-clause-rules : (w : ℕ) → w < 65536 → EntryRules (ok-clause w)
 ok-clause-rules w h = record {
   some-part = lit≤ tt;
@@ -143,7 +147,7 @@ ok-clause-rules w h = record {
   no-body = tt;
 }
 
--- so does book F
+-- book F keeps the rules
 book-f-rules : BookRules book-f
 book-f-rules = record {
   few = lit≤ tt;

@@ -51,7 +51,8 @@ Check-is-right V =
     (same : V → V → Bool) → Decides same → (book : List (Entry V)) → BookRules book →
     (k : Known V) → Sound k → (cells : List (Cell V)) → Holds cells k →
     (goals : List ℕ) → All (λ g. g < k .used) goals → (free : ℕ) → k .used + free ≤ most →
-    (steps : List Step) → Check book (k .equations) free goals steps (checks same book (k .used) free cells goals steps)
+    (steps : List Step) →
+    Check book (k .equations) free goals steps (checks same book (k .used) free cells goals steps)
 
 -- the answer that is executed is the defined one, and the cells that it leaves mean what is known after it
 abbrev pub Answers-are-right : Type 0 → Type 0
