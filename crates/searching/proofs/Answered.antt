@@ -1,9 +1,9 @@
 -- The executable answer of each call is the defined one.
-use mathlib.Core.Path.{_≡_, refl, sym, _∙_, ap, subst}
+use mathlib.Core.Path.{_≡_, refl, sym, subst}
 use mathlib.Core.Bool.{Bool, true, false, _||_}
 use mathlib.Core.List.{List, [], _∷_, _++_}
 use mathlib.Core.Logic.{_⊎_, inl, inr, _↔_}
-use Prim.Native.Nat.{ℕ, zero, suc, _+_, _-_, _*_, _<_, _≤_}
+use Prim.Native.Nat.{ℕ, suc, _+_, _-_, _*_, _<_, _≤_}
 use native.Mathlib.Omega.{arith}
 use lib.Dec.{ltb}
 use lib.ListN.{length}
@@ -13,12 +13,12 @@ use Rattle.std.specs.declared.option.Option.the-variants.{Some, None}
 use Rattle.std.proofs.shelf.Tests.{ltb-true, ltb-false, or-cases, or-parts}
 use Rattle.theory.specs.Equations.{Equation, equal, Solvable, Entails, IsAtom}
 use Rattle.theory.specs.Entries.{Entry, BookRules}
-use Rattle.theory.specs.Records.{Step, start}
-use Rattle.theory.specs.Search.{Limits, Outcome, granted, failed, spent, full, short, Solve}
+use Rattle.theory.specs.Records.{Step}
+use Rattle.theory.specs.Search.{Outcome, granted, failed, spent, full, short, Solve}
 use Rattle.theory.specs.Check.{If, Verdict, Check}
 use Rattle.theory.specs.Calls.{Call, write-open, write-leaf, write-node, equate, compare, solve, check}
-use Rattle.theory.specs.Calls.{Refusal, not-in-use, too-many-arguments, not-an-atom, too-long, too-short, no-cell}
-use Rattle.theory.specs.Calls.{Answer, wrote, accepted, same, different, refused}
+use Rattle.theory.specs.Calls.{Refusal, not-in-use, too-many-arguments, not-an-atom, too-long, too-short}
+use Rattle.theory.specs.Calls.{Answer, accepted, same, different, refused}
 use Rattle.theory.specs.Known.{Known, Sound, written, after}
 use Rattle.theory.specs.Answers.{capacity, served, first-unused, FirstNonAtom, answer-of, answer-to, UsedOr}
 use Rattle.theory.specs.Answers.{AtomsOr, NextCell, limits, Defined}
@@ -33,11 +33,11 @@ use Rattle.unify.specs.Meaning.{Means, Equated, Entailed}
 use Rattle.unify.proofs.Written.{writing, length-write}
 use Rattle.unify.proofs.Unified.{unify-right}
 use Rattle.unify.proofs.Meant.{meaning}
-use Rattle.searching.specs.Solving.{Spot, Ended, solves}
+use Rattle.searching.specs.Solving.{Ended, solves}
 use Rattle.searching.specs.Checking.{checks}
 use Rattle.searching.specs.Answering.{Answered, answered, refusing, if-used, if-atoms, is-node-there, or-goal}
 use Rattle.searching.specs.Answering.{first-non-atom, next-cell, if-small, by-unifying, by-comparing, left-by}
-use Rattle.searching.specs.Answering.{by-searching, limits-of, short-work, writes, answers}
+use Rattle.searching.specs.Answering.{by-searching, limits-of, writes, answers}
 use Rattle.searching.specs.Theorems.{Holds, Searched, Answers-are-right}
 use Rattle.searching.proofs.Theorems.{searched, checked}
 

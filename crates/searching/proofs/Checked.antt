@@ -1,9 +1,9 @@
 -- The executable check comes to the verdict that the definition of check gives.
-use mathlib.Core.Path.{_≡_, refl, sym, _∙_, ap, subst}
+use mathlib.Core.Path.{_≡_, refl, sym, _∙_}
 use mathlib.Core.Bool.{Bool, true, false}
 use mathlib.Core.List.{List, [], _∷_, _++_, cons≢nil}
-use mathlib.Core.Logic.{_⊎_, inl, inr}
-use Prim.Native.Nat.{ℕ, zero, suc, _+_, _<_, _≤_}
+use mathlib.Core.Logic.{inl, inr}
+use Prim.Native.Nat.{ℕ, suc, _+_, _<_, _≤_}
 use native.Mathlib.Omega.{arith}
 use lib.Dec.{ltb}
 use Rattle.std.specs.Finite.{All}
@@ -11,7 +11,7 @@ use Rattle.std.proofs.shelf.Tests.{ltb-true, ltb-false}
 use Rattle.theory.specs.Equations.{Equation, Solvable}
 use Rattle.theory.specs.Entries.{Entry, BookRules}
 use Rattle.theory.specs.Records.{Step, Goal, Replay, Replayed, start, step, together}
-use Rattle.theory.specs.Check.{If, Verdict, passed, unlawful, no-cells, AtEnd, CheckFrom, Check}
+use Rattle.theory.specs.Check.{If, Verdict, unlawful, no-cells, AtEnd, CheckFrom, Check}
 use Rattle.theory.specs.Known.{Names}
 use Rattle.theory.proofs.Steps.{Took, clause-step, loop-step, entry-step, took}
 use Rattle.unify.specs.Cells.{Cell, most}

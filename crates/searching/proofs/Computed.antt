@@ -1,9 +1,7 @@
 -- The table, computed.
 use mathlib.Core.Path.{_≡_, refl}
-use mathlib.Core.List.{List, map}
-use Rattle.std.specs.declared.option.Option.{Option}
+use mathlib.Core.List.{map}
 use Rattle.std.specs.declared.option.Option.the-variants.{Some}
-use Rattle.theory.specs.Calls.{Event}
 use Rattle.unify.specs.Cells.{content-at, joined-at, rejoin, rank, chase, root}
 use Rattle.unify.specs.Unify.{start, link, link-down, next, after, fits, link-if, meet-roots, meet, meet-all}
 use Rattle.unify.specs.Unify.{meet-arguments, pay-to, pay, turn, settle, rest, join, unify, compare}
@@ -15,7 +13,7 @@ use Rattle.searching.specs.Checking.{check-move, check-goal, check-cells, chec
 use Rattle.searching.specs.Answering.{refusing, if-used, if-atoms, is-node-there, or-goal, first-non-atom}
 use Rattle.searching.specs.Answering.{next-cell, if-small, by-unifying, by-comparing, left-by, by-searching}
 use Rattle.searching.specs.Answering.{writes, answers, before, next-call, sits}
-use Rattle.searching.specs.Table.{Case, executed, table}
+use Rattle.searching.specs.Table.{executed, table}
 
 -- each sitting comes out as it is expected
 pub computed : map executed table ≡ map (λ c. Some (c .sitting)) table

@@ -1,10 +1,9 @@
 -- Parts copied into the next cells leave them solved, and meaning what the instance owes.
-use mathlib.Core.Path.{_≡_, refl, sym, _∙_, ap, subst}
+use mathlib.Core.Path.{_≡_, sym, _∙_, ap, subst}
 use mathlib.Core.List.{List, [], _∷_, _++_, map, append-nil, append-assoc}
-use Prim.Native.Nat.{ℕ, zero, suc, _+_, _<_, _≤_}
+use Prim.Native.Nat.{ℕ, suc, _+_, _<_, _≤_}
 use native.Mathlib.Omega.{arith}
 use lib.ListN.{length}
-use Rattle.std.specs.Finite.{All}
 use Rattle.std.proofs.shelf.Elements.{all-weaker, all-map}
 use Rattle.theory.specs.Equations.{Equation, is-leaf, is-node, rename}
 use Rattle.theory.specs.Entries.{Part, PartRules, PartsRules, instance-of}

@@ -1,7 +1,7 @@
 -- With two turns for each try of its budget, and one more, the executable search comes to an end.
-use mathlib.Core.Path.{_≡_, refl, sym, _∙_, ap, subst}
-use mathlib.Core.Bool.{Bool, true, false, _||_}
-use mathlib.Core.List.{List, [], _∷_, _++_}
+use mathlib.Core.Path.{_≡_, refl, sym, subst}
+use mathlib.Core.Bool.{Bool, true, false}
+use mathlib.Core.List.{List, [], _∷_}
 use mathlib.Core.Logic.{inl, inr}
 use Prim.Native.Nat.{ℕ, zero, suc, _+_, _-_, _*_, _<_, _≤_}
 use native.Mathlib.Omega.{arith}
@@ -12,8 +12,8 @@ use Rattle.std.specs.declared.option.Option.{Option}
 use Rattle.std.specs.declared.option.Option.the-variants.{Some, None}
 use Rattle.std.proofs.shelf.Tests.{eqb-false, lt-ltb}
 use Rattle.theory.specs.Entries.{Entry}
-use Rattle.theory.specs.Records.{Step, Goal, Replay, Replayed, start, step}
-use Rattle.theory.specs.Search.{Point, Limits, tries, without, onward}
+use Rattle.theory.specs.Records.{Step, Goal, Replay, start, step}
+use Rattle.theory.specs.Search.{Limits, tries, without, onward}
 use Rattle.theory.specs.Calls.{Call, write-open, write-leaf, write-node, equate, compare, solve, check}
 use Rattle.theory.specs.Calls.{Refusal, Event}
 use Rattle.theory.specs.Answers.{Symbols}

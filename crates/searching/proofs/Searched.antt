@@ -1,5 +1,5 @@
 -- The executable search comes to the outcome that the definition of searches gives.
-use mathlib.Core.Path.{_≡_, refl, sym, _∙_, ap, subst}
+use mathlib.Core.Path.{_≡_, refl, sym, _∙_, subst}
 use mathlib.Core.Bool.{Bool, true, false}
 use mathlib.Core.List.{List, [], _∷_, _++_, map, cons≢nil}
 use mathlib.Core.Logic.{_≢_}
@@ -8,12 +8,11 @@ use native.Mathlib.Omega.{arith}
 use lib.Dec.{eqb, ltb}
 use lib.ListN.{length}
 use Rattle.std.specs.Finite.{All}
-use Rattle.std.specs.declared.option.Option.{Option}
-use Rattle.std.specs.declared.option.Option.the-variants.{Some, None}
+use Rattle.std.specs.declared.option.Option.the-variants.{Some}
 use Rattle.std.proofs.shelf.Tests.{ltb-true, ltb-false, eqb-true, eqb-false}
 use Rattle.theory.specs.Equations.{Equation}
 use Rattle.theory.specs.Entries.{Entry, BookRules}
-use Rattle.theory.specs.Records.{Step, Goal, Replay, Replayed, start, step}
+use Rattle.theory.specs.Records.{Step, Goal, Replay, Replayed, step}
 use Rattle.theory.specs.Search.{Point, Limits, Outcome, granted, failed, spent, full, short, without, onward}
 use Rattle.theory.specs.Search.{Stuck, May, Searches, Solve}
 use Rattle.theory.specs.Search.{done, exhausted, back, out-of-tries, out-of-steps, out-of-cells, falls, stands}

@@ -1,5 +1,5 @@
 -- An executed sitting is right.
-use mathlib.Core.Path.{_≡_, refl, sym, _∙_, ap, subst}
+use mathlib.Core.Path.{_≡_, refl, sym, subst}
 use mathlib.Core.Bool.{Bool}
 use mathlib.Core.List.{List, [], _∷_, _++_, map}
 use Prim.Native.Nat.{ℕ}
@@ -7,7 +7,7 @@ use Rattle.std.specs.declared.option.Option.{Option}
 use Rattle.std.specs.declared.option.Option.the-variants.{Some, None}
 use Rattle.theory.specs.Entries.{Entry, BookRules}
 use Rattle.theory.specs.Calls.{Call, Answer, Event}
-use Rattle.theory.specs.Known.{Known, nothing, Sound, after, known-from, known}
+use Rattle.theory.specs.Known.{Known, nothing, after, known-from, known}
 use Rattle.theory.specs.Answers.{Defined}
 use Rattle.theory.specs.Sittings.{RightFrom, Right}
 use Rattle.theory.proofs.Elements.{none-some, some-inj}

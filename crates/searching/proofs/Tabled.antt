@@ -1,14 +1,12 @@
 -- Every case of the table is a right sitting, since it comes out so when it is executed.
-use mathlib.Core.Path.{_≡_, refl, sym, _∙_, ap, subst}
+use mathlib.Core.Path.{_≡_, refl, ap}
 use mathlib.Core.List.{List, [], _∷_, map}
 use Prim.Native.Nat.{ℕ, _<_}
 use lib.Dec.{eqb, lit<, lit≤}
 use Rattle.std.specs.Finite.{All}
-use Rattle.std.specs.declared.option.Option.{Option}
 use Rattle.std.specs.declared.option.Option.the-variants.{Some}
 use Rattle.std.proofs.shelf.Tests.{eqb-true, eqb-false}
 use Rattle.theory.specs.Entries.{EntryRules, BookRules}
-use Rattle.theory.specs.Calls.{Event}
 use Rattle.theory.specs.Sittings.{Right}
 use Rattle.unify.specs.Theorems.{Decides}
 use Rattle.searching.specs.Table.{Case, executed, q-fact, p-clause, q-clause, book-a, fine-fact, fine-clause}

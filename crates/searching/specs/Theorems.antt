@@ -85,3 +85,10 @@ Turns-suffice V =
     (same : V → V → Bool) (book : List (Entry V)) (supplied turns : ℕ) (calls : List (Call V))
     (cells : List (Cell V)) → All (λ c. Symbols c × Enough turns c) calls →
     (h : List (Event V)) × (sits same book supplied turns calls cells ≡ Some h)
+
+-- whatever calls are made, some right sitting has just these calls, and it can be executed
+abbrev pub Every-sitting-comes-out : Type 0 → Type 0
+Every-sitting-comes-out V =
+    (same : V → V → Bool) → Decides same → (book : List (Entry V)) → BookRules book → (supplied : ℕ) →
+    (calls : List (Call V)) → All Symbols calls →
+    (h : List (Event V)) × Right book supplied h × (map (λ e. e .call) h ≡ calls)
