@@ -1,9 +1,9 @@
 -- The executable answer of each call is the defined one.
-use mathlib.Core.Path.{_≡_, refl, sym, _∙_, ap, subst}
+use mathlib.Core.Path.{_≡_, refl, sym, subst}
 use mathlib.Core.Bool.{Bool, true, false, _||_}
 use mathlib.Core.List.{List, [], _∷_, _++_}
 use mathlib.Core.Logic.{_⊎_, inl, inr, _↔_}
-use Prim.Native.Nat.{ℕ, zero, suc, _+_, _-_, _*_, _<_, _≤_}
+use Prim.Native.Nat.{ℕ, suc, _+_, _-_, _*_, _<_, _≤_}
 use native.Mathlib.Omega.{arith}
 use lib.Dec.{ltb}
 use lib.ListN.{length}
@@ -13,12 +13,12 @@ use Rattle.std.specs.declared.option.Option.the-variants.{Some, None}
 use Rattle.std.proofs.shelf.Tests.{ltb-true, ltb-false, or-cases, or-parts}
 use Rattle.theory.specs.Equations.{Equation, equal, Solvable, Entails, IsAtom}
 use Rattle.theory.specs.Entries.{Entry, BookRules}
-use Rattle.theory.specs.Records.{Step, start}
-use Rattle.theory.specs.Search.{Limits, Outcome, granted, failed, spent, full, short, Solve}
+use Rattle.theory.specs.Records.{Step}
+use Rattle.theory.specs.Search.{Outcome, granted, failed, spent, full, short, Solve}
 use Rattle.theory.specs.Check.{If, Verdict, Check}
 use Rattle.theory.specs.Calls.{Call, write-open, write-leaf, write-node, equate, compare, solve, check}
-use Rattle.theory.specs.Calls.{Refusal, not-in-use, too-many-arguments, not-an-atom, too-long, too-short, no-cell}
-use Rattle.theory.specs.Calls.{Answer, wrote, accepted, same, different, refused}
+use Rattle.theory.specs.Calls.{Refusal, not-in-use, too-many-arguments, not-an-atom, too-long, too-short}
+use Rattle.theory.specs.Calls.{Answer, accepted, same, different, refused}
 use Rattle.theory.specs.Known.{Known, Sound, written, after}
 use Rattle.theory.specs.Answers.{capacity, served, first-unused, FirstNonAtom, answer-of, answer-to, UsedOr}
 use Rattle.theory.specs.Answers.{AtomsOr, NextCell, limits, Defined}
@@ -33,11 +33,11 @@ use Rattle.unify.specs.Meaning.{Means, Equated, Entailed}
 use Rattle.unify.proofs.Written.{writing, length-write}
 use Rattle.unify.proofs.Unified.{unify-right}
 use Rattle.unify.proofs.Meant.{meaning}
-use Rattle.searching.specs.Solving.{Spot, Ended, solves}
+use Rattle.searching.specs.Solving.{Ended, solves}
 use Rattle.searching.specs.Checking.{checks}
 use Rattle.searching.specs.Answering.{Answered, answered, refusing, if-used, if-atoms, is-node-there, or-goal}
 use Rattle.searching.specs.Answering.{first-non-atom, next-cell, if-small, by-unifying, by-comparing, left-by}
-use Rattle.searching.specs.Answering.{by-searching, limits-of, short-work, writes, answers}
+use Rattle.searching.specs.Answering.{by-searching, limits-of, writes, answers}
 use Rattle.searching.specs.Theorems.{Holds, Searched, Answers-are-right}
 use Rattle.searching.proofs.Theorems.{searched, checked}
 
@@ -244,7 +244,8 @@ module _ {V : Type 0} (alike : V → V → Bool) (law : Decides alike) (book : L
         Q z = (o : Outcome) × Solve book es (limits supplied k b s) goals o × (z ≡ answer-of o)
 
         left : (e : Ended V) → Searched book k (limits supplied k b s) goals e → (o : Outcome) →
-            e .outcome ≡ o → Holds (left-by cells (e .last .cells) o) (after book k (solve goals b s w f) (answer-of o))
+            e .outcome ≡ o →
+            Holds (left-by cells (e .last .cells) o) (after book k (solve goals b s w f) (answer-of o))
         left e z (granted n steps) p = z .cells n steps p
         left e z (failed n) p = here
         left e z (spent n) p = here
@@ -273,9 +274,12 @@ module _ {V : Type 0} (alike : V → V → Bool) (law : Decides alike) (book : L
         let v : Verdict = checks alike book (length cells) (capacity supplied - length cells) cells goals steps in
         given (check goals steps w f)
         (λ z. (v : Verdict) × Check book es (capacity supplied - length cells) goals steps v × (z ≡ answer-to v))
-        (answer-to v) cells
-        (v, checked alike law book rules k sound cells here goals in-use (capacity supplied - length cells) fits steps,
-        refl)
+        (answer-to v) cells (
+          v,
+          checked alike law book rules k sound cells here goals in-use (capacity supplied - length cells) fits
+              steps,
+          refl,
+        )
         here a q
 
     -- a node
@@ -305,7 +309,8 @@ module _ {V : Type 0} (alike : V → V → Bool) (law : Decides alike) (book : L
         λ z. If (Solvable (es ++ (equal x y ∷ []))) (z ≡ accepted) (z ≡ refused Refusal.clash) in
         let Q₂ : Answer → Type 0 = λ z. If (work < n) (z ≡ refused too-short) (Q₁ z) in
         used-right c (λ r. here) (x ∷ y ∷ []) Q₂ _ a
-        (λ u. refusing-right c (λ r. here) (work < n) too-short Q₁ (ltb work n) (below work n) (not-below work n) _ a
+        (λ u. refusing-right c (λ r. here) (work < n) too-short Q₁ (ltb work n) (below work n) (not-below work n)
+        _ a
         (unifying-right x y work (u .0) (u .1 .0) a)) q
 
     -- a compare
@@ -319,7 +324,8 @@ module _ {V : Type 0} (alike : V → V → Bool) (law : Decides alike) (book : L
         let Q₁ : Answer → Type 0 = λ z. If (Entails es x y) (z ≡ same) (z ≡ different) in
         let Q₂ : Answer → Type 0 = λ z. If (work < n) (z ≡ refused too-short) (Q₁ z) in
         used-right c (λ r. here) (x ∷ y ∷ []) Q₂ _ a
-        (λ u. refusing-right c (λ r. here) (work < n) too-short Q₁ (ltb work n) (below work n) (not-below work n) _ a
+        (λ u. refusing-right c (λ r. here) (work < n) too-short Q₁ (ltb work n) (below work n) (not-below work n)
+        _ a
         (comparing-right x y work (u .0) (u .1 .0) a)) q
 
     -- a solve
@@ -340,7 +346,8 @@ module _ {V : Type 0} (alike : V → V → Bool) (law : Decides alike) (book : L
         (used-right c (λ r. here) goals Q₃ _ a
         (λ u. atoms-right c (λ r. here) goals Q₂ _ a
         (refusing-right c (λ r. here) ((work < n) ⊎ (frames < served s)) too-short Q₁
-        (ltb work n || ltb frames (served s)) (either work n frames (served s)) (neither work n frames (served s)) _ a
+        (ltb work n || ltb frames (served s)) (either work n frames (served s))
+        (neither work n frames (served s)) _ a
         (searching-right goals b s work frames u a)))) q
 
     -- a check

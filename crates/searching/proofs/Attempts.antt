@@ -1,18 +1,16 @@
 -- A step tried over cells that mean what is known and the replay so far.
-use mathlib.Core.Path.{_≡_, refl, sym, _∙_, ap, subst}
+use mathlib.Core.Path.{_≡_, sym, _∙_, ap, subst}
 use mathlib.Core.Bool.{Bool}
 use mathlib.Core.List.{List, [], _∷_, _++_, map, append-assoc, map-append}
-use Prim.Native.Nat.{ℕ, zero, suc, _+_, _<_, _≤_}
+use Prim.Native.Nat.{ℕ, _+_, _<_, _≤_}
 use native.Mathlib.Omega.{arith}
 use lib.ListN.{length, getD}
 use Rattle.std.specs.Finite.{nth, All}
-use Rattle.std.proofs.shelf.Elements.{all-weaker}
 use Rattle.std.proofs.shelf.Lists.{getD-push}
-use Rattle.std.specs.declared.option.Option.the-variants.{Some}
-use Rattle.theory.specs.Trees.{Tree, IsTree}
-use Rattle.theory.specs.Equations.{Equation, equal, rename, MeetsAll, Solves, Solvable}
+use Rattle.theory.specs.Trees.{Tree}
+use Rattle.theory.specs.Equations.{Equation, equal, rename, Solves, Solvable}
 use Rattle.theory.specs.Entries.{Entry, EntryRules, BookRules, instance-of}
-use Rattle.theory.specs.Records.{Step, step-of, Term, cell, part, Goal, Replay, Replayed, start, step, made}
+use Rattle.theory.specs.Records.{Step, Term, cell, part, Goal, Replay, Replayed, start, step, made}
 use Rattle.theory.specs.Records.{expand, close, Leads, together}
 use Rattle.theory.specs.Known.{Names, placed}
 use Rattle.theory.proofs.Elements.{all-or, all-nth, all-right}
@@ -28,7 +26,7 @@ use Rattle.unify.specs.Meaning.{Means, Equated}
 use Rattle.unify.proofs.Constants.{constant, constant-is-tree, other, other-small}
 use Rattle.unify.proofs.Unified.{unify-right}
 use Rattle.unify.proofs.Meant.{meaning}
-use Rattle.searching.specs.Trying.{copied, with-entry, with-step, attempt, next-at}
+use Rattle.searching.specs.Trying.{copied, with-entry, with-step, attempt}
 use Rattle.searching.proofs.Scopes.{Within, Scoped, scoped-step, stays, renames-alike, renames-through}
 use Rattle.searching.proofs.Copies.{Copies, copies}
 
@@ -115,7 +113,8 @@ module _ {V : Type 0} (known : List (Equation V ℕ)) (used : ℕ) where
       map-append (rename ψ) (made n e) end ∙ (λ i. b i ++ c i) in
       let all : map (rename ψ) (r .equations ++ (made n e ++ end)) ≡ old ++ (new ++ last) =
       map-append (rename ψ) (r .equations) (made n e ++ end) ∙ (λ i. a i ++ tail i) in
-      append-assoc (known ++ old) new last ∙ (append-assoc known old (new ++ last) ∙ ap (λ l. known ++ l) (sym all))
+      append-assoc (known ++ old) new last
+      ∙ (append-assoc known old (new ++ last) ∙ ap (λ l. known ++ l) (sym all))
 
   -- what is laid out after a step that closes a loop
   close-laid : (r : Replay V) → Scoped r → (g : Goal) (rest : List Goal) (n : ℕ) → r .pending ≡ g ∷ rest →
@@ -244,7 +243,8 @@ module _ {V : Type 0} (same : V → V → Bool) (law : Decides same) (book : Lis
       all-or (Within (length (r .taken))) (r .taken) (g .term) (k .scoped .taken) w n in
       let end : List (Equation V Term) = equal (g .term) t ∷ [] in
       let ends : All (Names (λ x. placed used (m .offsets) x < used + m .cells)) end =
-      all-right (Names (λ x. placed used (m .offsets) x < used + m .cells)) (r .equations) end (low-terms m ys l) in
+      all-right (Names (λ x. placed used (m .offsets) x < used + m .cells)) (r .equations) end
+      (low-terms m ys l) in
       let ga : placed used (r .offsets) (g .term) < used + r .cells =
       subst (λ j. j < used + r .cells) (old-at known used r (k .scoped) (g .term) w) (ends .0 .0) in
       let hb : placed used (r .offsets) t < used + r .cells =

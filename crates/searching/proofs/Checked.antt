@@ -1,9 +1,9 @@
 -- The executable check comes to the verdict that the definition of check gives.
-use mathlib.Core.Path.{_≡_, refl, sym, _∙_, ap, subst}
+use mathlib.Core.Path.{_≡_, refl, sym, _∙_}
 use mathlib.Core.Bool.{Bool, true, false}
 use mathlib.Core.List.{List, [], _∷_, _++_, cons≢nil}
-use mathlib.Core.Logic.{_⊎_, inl, inr}
-use Prim.Native.Nat.{ℕ, zero, suc, _+_, _<_, _≤_}
+use mathlib.Core.Logic.{inl, inr}
+use Prim.Native.Nat.{ℕ, suc, _+_, _<_, _≤_}
 use native.Mathlib.Omega.{arith}
 use lib.Dec.{ltb}
 use Rattle.std.specs.Finite.{All}
@@ -11,7 +11,7 @@ use Rattle.std.proofs.shelf.Tests.{ltb-true, ltb-false}
 use Rattle.theory.specs.Equations.{Equation, Solvable}
 use Rattle.theory.specs.Entries.{Entry, BookRules}
 use Rattle.theory.specs.Records.{Step, Goal, Replay, Replayed, start, step, together}
-use Rattle.theory.specs.Check.{If, Verdict, passed, unlawful, no-cells, AtEnd, CheckFrom, Check}
+use Rattle.theory.specs.Check.{If, Verdict, unlawful, no-cells, AtEnd, CheckFrom, Check}
 use Rattle.theory.specs.Known.{Names}
 use Rattle.theory.proofs.Steps.{Took, clause-step, loop-step, entry-step, took}
 use Rattle.unify.specs.Cells.{Cell, most}
@@ -55,7 +55,8 @@ module _ {V : Type 0} (same : V → V → Bool) (law : Decides same) (book : Lis
     -- the step leaves a reading or none
     move-right : (m : Replay V) (t : Move V) →
         Comes same law book rules known used low goals in-use m (before ++ (x ∷ [])) t →
-        If (Solvable (together known m)) (CheckFrom book known free m (suc i) xs (check-move same book used free go i m t))
+        If (Solvable (together known m))
+        (CheckFrom book known free m (suc i) xs (check-move same book used free go i m t))
         (check-move same book used free go i m t ≡ unlawful i 7)
     unfolding check-move
     move-right m (Move.went t) c = inl (c .0, right (before ++ (x ∷ [])) (t .cells) m (suc i) (c .1))
@@ -71,7 +72,8 @@ module _ {V : Type 0} (same : V → V → Bool) (law : Decides same) (book : Lis
     goal-right m w h [] p = absurd (has-goal book r x m (took book r x m w) p)
     goal-right m w h (g ∷ rest) p =
         move-right m (attempt same book used cells r g (x .mode) (x .number))
-        (attempt-right same law book rules known used low goals in-use r before cells k g rest p x m w (omega arith))
+        (attempt-right same law book rules known used low goals in-use r before cells k g rest p x m w
+        (omega arith))
 
     -- the instance fits or does not
     cells-right : (m : Replay V) → step book r x ≡ Replayed.went m → (b : Bool) → ltb free (m .cells) ≡ b →

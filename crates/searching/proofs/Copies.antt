@@ -1,10 +1,9 @@
 -- Parts copied into the next cells leave them solved, and meaning what the instance owes.
-use mathlib.Core.Path.{_≡_, refl, sym, _∙_, ap, subst}
+use mathlib.Core.Path.{_≡_, sym, _∙_, ap, subst}
 use mathlib.Core.List.{List, [], _∷_, _++_, map, append-nil, append-assoc}
-use Prim.Native.Nat.{ℕ, zero, suc, _+_, _<_, _≤_}
+use Prim.Native.Nat.{ℕ, suc, _+_, _<_, _≤_}
 use native.Mathlib.Omega.{arith}
 use lib.ListN.{length}
-use Rattle.std.specs.Finite.{All}
 use Rattle.std.proofs.shelf.Elements.{all-weaker, all-map}
 use Rattle.theory.specs.Equations.{Equation, is-leaf, is-node, rename}
 use Rattle.theory.specs.Entries.{Part, PartRules, PartsRules, instance-of}
@@ -38,7 +37,8 @@ module _ {V : Type 0} (b c : ℕ) where
       (es ++ and-content n (content-of (there b c) p) []) ++ map (rename (there b c)) (instance-of ps (suc j))
       ≡ es ++ map (rename (there b c)) (instance-of (p ∷ ps) j)
   unfolding content-of
-  new-front es j n e Part.variable ps = ap (λ l. l ++ map (rename (there b c)) (instance-of ps (suc j))) (append-nil es)
+  new-front es j n e Part.variable ps =
+      ap (λ l. l ++ map (rename (there b c)) (instance-of ps (suc j))) (append-nil es)
   new-front es j n e (Part.leaf v) ps =
       append-assoc es (is-leaf n v ∷ []) (map (rename (there b c)) (instance-of ps (suc j)))
       ∙ ap (λ k. es ++ (is-leaf k v ∷ map (rename (there b c)) (instance-of ps (suc j)))) e
@@ -75,5 +75,6 @@ module _ {V : Type 0} (b c : ℕ) where
         solved = i .solved;
         number = i .number ∙ (ap (λ k. k + length ps) l ∙ omega arith);
         means =
-            subst (Means (copied (there b c) (write cells q) ps)) (new-front es j (length cells) n p ps) (i .means);
+            subst (Means (copied (there b c) (write cells q) ps)) (new-front es j (length cells) n p ps)
+            (i .means);
       }

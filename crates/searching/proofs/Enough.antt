@@ -1,7 +1,7 @@
 -- With two turns for each try of its budget, and one more, the executable search comes to an end.
-use mathlib.Core.Path.{_≡_, refl, sym, _∙_, ap, subst}
-use mathlib.Core.Bool.{Bool, true, false, _||_}
-use mathlib.Core.List.{List, [], _∷_, _++_}
+use mathlib.Core.Path.{_≡_, refl, sym, subst}
+use mathlib.Core.Bool.{Bool, true, false}
+use mathlib.Core.List.{List, [], _∷_}
 use mathlib.Core.Logic.{inl, inr}
 use Prim.Native.Nat.{ℕ, zero, suc, _+_, _-_, _*_, _<_, _≤_}
 use native.Mathlib.Omega.{arith}
@@ -12,8 +12,8 @@ use Rattle.std.specs.declared.option.Option.{Option}
 use Rattle.std.specs.declared.option.Option.the-variants.{Some, None}
 use Rattle.std.proofs.shelf.Tests.{eqb-false, lt-ltb}
 use Rattle.theory.specs.Entries.{Entry}
-use Rattle.theory.specs.Records.{Step, Goal, Replay, Replayed, start, step}
-use Rattle.theory.specs.Search.{Point, Limits, tries, without, onward}
+use Rattle.theory.specs.Records.{Step, Goal, Replay, start, step}
+use Rattle.theory.specs.Search.{Limits, tries, without, onward}
 use Rattle.theory.specs.Calls.{Call, write-open, write-leaf, write-node, equate, compare, solve, check}
 use Rattle.theory.specs.Calls.{Refusal, Event}
 use Rattle.theory.specs.Answers.{Symbols}
@@ -25,7 +25,8 @@ use Rattle.searching.specs.Trying.{attempt}
 use Rattle.searching.specs.Solving.{Spot, Ended, Goes, spot, by-move, by-cells, by-step, by-room, by-budget}
 use Rattle.searching.specs.Solving.{by-below, by-left, by-pending, searches, solves, first-point}
 use Rattle.searching.specs.Answering.{Answered, refusing, if-used, if-atoms, next-cell, if-small, by-unifying}
-use Rattle.searching.specs.Answering.{by-comparing, by-searching, limits-of, writes, answers, before, next-call, sits}
+use Rattle.searching.specs.Answering.{by-comparing, by-searching, limits-of, writes, answers, before, next-call}
+use Rattle.searching.specs.Answering.{sits}
 use Rattle.searching.specs.Theorems.{Enough, Turns-suffice}
 
 -- something comes out
@@ -82,7 +83,8 @@ module _ {V : Type 0} (same : V → V → Bool) (book : List (Entry V)) (used : 
           Comes (by-cells same book used lim go s below n g x xs m b)
       unfolding by-cells
       cells-end h m true = (_, refl)
-      cells-end h m false = move-ends h m (attempt same book used (s .cells) (s .point .at) g (x .mode) (x .number))
+      cells-end h m false =
+          move-ends h m (attempt same book used (s .cells) (s .point .at) g (x .mode) (x .number))
 
       -- the step breaks no rule
       step-ends : n < lim .budget →

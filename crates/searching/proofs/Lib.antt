@@ -8,5 +8,6 @@ pub mod Theorems
 pub mod Answered
 pub mod Sittings
 pub mod Enough
+pub mod EverySitting
 pub mod Computed
 pub mod Tabled

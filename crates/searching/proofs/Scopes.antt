@@ -1,7 +1,7 @@
 -- The terms of a replay belong to steps that were taken, so that later steps leave them where they lie.
 use mathlib.Core.Path.{_≡_, refl, sym, _∙_, ap, subst}
 use mathlib.Core.List.{List, [], _∷_, _++_, map}
-use Prim.Native.Nat.{ℕ, zero, suc, _+_, _<_, _≤_}
+use Prim.Native.Nat.{ℕ, _+_, _<_, _≤_}
 use native.Mathlib.Omega.{arith}
 use lib.ListN.{length, getD}
 use Rattle.std.specs.Finite.{All}
@@ -83,14 +83,16 @@ module _ {V : Type 0} where
         let O : Term → Type 0 = Within (length (r .taken)) in
         record {
           lengths =
-              ap length offsets ∙ (length-push (r .offsets) (r .cells) ∙ (ap (λ k. k + 1) (s .lengths) ∙ sym one-more));
+              ap length offsets
+              ∙ (length-push (r .offsets) (r .cells) ∙ (ap (λ k. k + 1) (s .lengths) ∙ sym one-more));
           pending = pending;
           taken =
               subst (All P) (sym taken)
               (all-push P (r .taken) (g .term) (all-weaker O P keep (r .taken) (s .taken)) goal-within);
           equations =
               subst (All (Names P)) (sym q)
-              (all-append (Names P) (r .equations) es (all-names-weaker O P keep (r .equations) (s .equations)) new);
+              (all-append (Names P) (r .equations) es (all-names-weaker O P keep (r .equations) (s .equations))
+              new);
         }
 
   -- a step that names an entry
@@ -151,7 +153,8 @@ module _ {X Y : Type 0} (f h : X → Y) (P : X → Type 0) (same : (x : X) → P
   rename-alike (equal x y) a = λ i. equal (same x (a .0) i) (same y (a .1) i)
 
   -- and on a list of equations
-  pub renames-alike : {V : Type 0} (es : List (Equation V X)) → All (Names P) es → map (rename f) es ≡ map (rename h) es
+  pub renames-alike : {V : Type 0} (es : List (Equation V X)) → All (Names P) es →
+      map (rename f) es ≡ map (rename h) es
   renames-alike [] a = refl
   renames-alike (e ∷ es) a = λ i. rename-alike e (a .0) i ∷ renames-alike es (a .1) i
 
@@ -168,6 +171,7 @@ module _ {X Y Z : Type 0} (f : Y → Z) (g : X → Y) (h : X → Z) (same : (x :
   rename-through (equal x y) = λ i. equal (same x i) (same y i)
 
   -- over a list of equations
-  pub renames-through : {V : Type 0} (es : List (Equation V X)) → map (rename f) (map (rename g) es) ≡ map (rename h) es
+  pub renames-through : {V : Type 0} (es : List (Equation V X)) →
+      map (rename f) (map (rename g) es) ≡ map (rename h) es
   renames-through [] = refl
   renames-through (e ∷ es) = λ i. rename-through e i ∷ renames-through es i

@@ -1,5 +1,5 @@
 -- The executable search comes to the outcome that the definition of searches gives.
-use mathlib.Core.Path.{_≡_, refl, sym, _∙_, ap, subst}
+use mathlib.Core.Path.{_≡_, refl, sym, _∙_, subst}
 use mathlib.Core.Bool.{Bool, true, false}
 use mathlib.Core.List.{List, [], _∷_, _++_, map, cons≢nil}
 use mathlib.Core.Logic.{_≢_}
@@ -8,12 +8,11 @@ use native.Mathlib.Omega.{arith}
 use lib.Dec.{eqb, ltb}
 use lib.ListN.{length}
 use Rattle.std.specs.Finite.{All}
-use Rattle.std.specs.declared.option.Option.{Option}
-use Rattle.std.specs.declared.option.Option.the-variants.{Some, None}
+use Rattle.std.specs.declared.option.Option.the-variants.{Some}
 use Rattle.std.proofs.shelf.Tests.{ltb-true, ltb-false, eqb-true, eqb-false}
 use Rattle.theory.specs.Equations.{Equation}
 use Rattle.theory.specs.Entries.{Entry, BookRules}
-use Rattle.theory.specs.Records.{Step, Goal, Replay, Replayed, start, step}
+use Rattle.theory.specs.Records.{Step, Goal, Replay, Replayed, step}
 use Rattle.theory.specs.Search.{Point, Limits, Outcome, granted, failed, spent, full, short, without, onward}
 use Rattle.theory.specs.Search.{Stuck, May, Searches, Solve}
 use Rattle.theory.specs.Search.{done, exhausted, back, out-of-tries, out-of-steps, out-of-cells, falls, stands}
@@ -98,8 +97,8 @@ module _ {V : Type 0} (same : V → V → Bool) (law : Decides same) (book : Lis
           let h : m .cells ≤ lim .free = ltb-false (lim .free) (m .cells) b in
           move-right x xs m (attempt same book used (s .cells) (s .point .at) g (x .mode) (x .number))
           (record { next = l; after = w; budget = u; room = v; cells = h })
-          (attempt-right same law book rules known used low goals in-use (s .point .at) (s .point .steps) (s .cells)
-          k g rest p x m w (omega arith)) q
+          (attempt-right same law book rules known used low goals in-use (s .point .at) (s .point .steps)
+          (s .cells) k g rest p x m w (omega arith)) q
 
       -- the step keeps the rules
       step-right : n ≢ lim .budget → length (s .point .steps) < lim .room →
@@ -163,7 +162,8 @@ module _ {V : Type 0} (same : V → V → Bool) (law : Decides same) (book : Lis
   unfolding searches
   searches-right zero s below n k ks e q = absurd (none-some q)
   searches-right (suc t) s below n k ks e q =
-      pending-right (searches same book used lim t) (searches-right t) s below n k ks e (s .point .at .pending) refl q
+      pending-right (searches same book used lim t) (searches-right t) s below n k ks e (s .point .at .pending)
+      refl q
 
   -- the search for a record of the goals
   pub solves-right : (turns : ℕ) (cells : List (Cell V)) →

@@ -1,5 +1,5 @@
 -- An executed sitting is right.
-use mathlib.Core.Path.{_≡_, refl, sym, _∙_, ap, subst}
+use mathlib.Core.Path.{_≡_, refl, sym, subst}
 use mathlib.Core.Bool.{Bool}
 use mathlib.Core.List.{List, [], _∷_, _++_, map}
 use Prim.Native.Nat.{ℕ}
@@ -7,7 +7,7 @@ use Rattle.std.specs.declared.option.Option.{Option}
 use Rattle.std.specs.declared.option.Option.the-variants.{Some, None}
 use Rattle.theory.specs.Entries.{Entry, BookRules}
 use Rattle.theory.specs.Calls.{Call, Answer, Event}
-use Rattle.theory.specs.Known.{Known, nothing, Sound, after, known-from, known}
+use Rattle.theory.specs.Known.{Known, nothing, after, known-from, known}
 use Rattle.theory.specs.Answers.{Defined}
 use Rattle.theory.specs.Sittings.{RightFrom, Right}
 use Rattle.theory.proofs.Elements.{none-some, some-inj}
@@ -58,8 +58,8 @@ module _ {V : Type 0} (same : V → V → Bool) (law : Decides same) (book : Lis
   call-right c cs go right past r cells k (Some a) e h q =
       let k₀ : Known V = known book past in
       let x : Event V = record { call = c; answer = a .answer } in
-      let w = answers-right V same law book rules supplied turns k₀ (sound-right book rules supplied past r) cells k c a
-      e in
+      let w = answers-right V same law book rules supplied turns k₀ (sound-right book rules supplied past r) cells
+      k c a e in
       let n : known book (past ++ (x ∷ [])) ≡ after book k₀ c (a .answer) = known-push book nothing past x in
       before-right k₀ c (a .answer) cs (w .0) (go (a .cells))
       (λ t p. subst (λ z. Comes-to cs z t) n

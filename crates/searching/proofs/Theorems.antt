@@ -1,28 +1,27 @@
 -- The theorems of the executable search and check.
 use mathlib.Core.Path.{_≡_, refl, sym, _∙_, ap, subst}
 use mathlib.Core.Bool.{Bool}
-use mathlib.Core.List.{List, [], _++_, append-nil, map}
+use mathlib.Core.List.{List, [], append-nil}
 use Prim.Native.Nat.{ℕ, _+_, _<_, _≤_}
 use native.Mathlib.Omega.{arith}
 use lib.ListN.{length}
 use Rattle.std.specs.Finite.{All}
 use Rattle.std.specs.declared.option.Option.the-variants.{Some}
-use Rattle.theory.specs.Equations.{Equation}
 use Rattle.theory.specs.Entries.{Entry, BookRules}
 use Rattle.theory.specs.Records.{Step, Replay, start, replay}
-use Rattle.theory.specs.Search.{Limits, Outcome, granted, Solve}
+use Rattle.theory.specs.Search.{Limits}
 use Rattle.theory.specs.Check.{Check}
-use Rattle.theory.specs.Known.{Known, Sound, recorded, Names}
+use Rattle.theory.specs.Known.{Known, Sound, recorded}
 use Rattle.theory.proofs.Replays.{leads-replay}
 use Rattle.unify.specs.Cells.{Cell, most}
 use Rattle.unify.specs.Theorems.{Decides}
 use Rattle.unify.specs.Meaning.{Means}
-use Rattle.searching.specs.Solving.{Spot, Ended, solves}
+use Rattle.searching.specs.Solving.{Ended, solves}
 use Rattle.searching.specs.Checking.{checks}
 use Rattle.searching.specs.Theorems.{Holds, Searched, Search-is-right, Check-is-right}
 use Rattle.searching.proofs.Scopes.{scoped-start}
 use Rattle.searching.proofs.Attempts.{Keeps}
-use Rattle.searching.proofs.Searched.{Good, AsGranted, solves-right}
+use Rattle.searching.proofs.Searched.{AsGranted, solves-right}
 use Rattle.searching.proofs.Checked.{checks-right}
 
 module _ {V : Type 0} (same : V → V → Bool) (law : Decides same) (book : List (Entry V)) (rules : BookRules book)
@@ -70,11 +69,12 @@ module _ {V : Type 0} (same : V → V → Bool) (law : Decides same) (book : Lis
       checks-right same law book rules (k .equations) (k .used) (sound .in-use) goals in-use free fits cells
       kept-start steps
 
--- both theorems
+-- the theorem of the search
 pub search-right : (V : Type 0) → Search-is-right V
 search-right V same law book rules k sound cells holds goals in-use lim fits turns e q =
     searched same law book rules k sound cells holds goals in-use lim fits turns e q
 
+-- and that of the check
 pub check-right : (V : Type 0) → Check-is-right V
 check-right V same law book rules k sound cells holds goals in-use free fits steps =
     checked same law book rules k sound cells holds goals in-use free fits steps

@@ -17,7 +17,7 @@ use Rattle.unify.specs.Cells.{Content, Cell, content-at, root}
 use Rattle.unify.specs.Unify.{Move}
 use Rattle.unify.specs.Unify
 use Rattle.unify.specs.Writing.{write}
-use Rattle.searching.specs.Solving.{Spot, Ended, solves}
+use Rattle.searching.specs.Solving.{Ended, solves}
 use Rattle.searching.specs.Checking.{checks}
 
 -- an answer, and the cells that the call leaves

@@ -8,7 +8,8 @@ use Rattle.std.specs.declared.option.Option.{Option}
 use Rattle.std.specs.declared.option.Option.the-variants.{Some, None}
 use Rattle.theory.specs.Entries.{Entry}
 use Rattle.theory.specs.Records.{Step, Goal, Replay, Replayed, start, step}
-use Rattle.theory.specs.Search.{Point, Limits, Outcome, granted, failed, spent, full, short, tries, without, onward}
+use Rattle.theory.specs.Search.{Point, Limits, Outcome, granted, failed, spent, full, short, tries, without}
+use Rattle.theory.specs.Search.{onward}
 use Rattle.unify.specs.Cells.{Cell}
 use Rattle.unify.specs.Unify.{Move}
 use Rattle.searching.specs.Trying.{attempt}
@@ -35,7 +36,6 @@ module _ {V : Type 0} where
   -- that point with those cells
   abbrev pub spot : Point V → List (Cell V) → Spot V
   spot p cells = record { point = p; cells = cells }
-
 
 module _ {V : Type 0} (same : V → V → Bool) (book : List (Entry V)) (used : ℕ) (lim : Limits) where
   -- the try stands or is taken back

@@ -51,7 +51,8 @@ Check-is-right V =
     (same : V → V → Bool) → Decides same → (book : List (Entry V)) → BookRules book →
     (k : Known V) → Sound k → (cells : List (Cell V)) → Holds cells k →
     (goals : List ℕ) → All (λ g. g < k .used) goals → (free : ℕ) → k .used + free ≤ most →
-    (steps : List Step) → Check book (k .equations) free goals steps (checks same book (k .used) free cells goals steps)
+    (steps : List Step) →
+    Check book (k .equations) free goals steps (checks same book (k .used) free cells goals steps)
 
 -- the answer that is executed is the defined one, and the cells that it leaves mean what is known after it
 abbrev pub Answers-are-right : Type 0 → Type 0
@@ -84,3 +85,10 @@ Turns-suffice V =
     (same : V → V → Bool) (book : List (Entry V)) (supplied turns : ℕ) (calls : List (Call V))
     (cells : List (Cell V)) → All (λ c. Symbols c × Enough turns c) calls →
     (h : List (Event V)) × (sits same book supplied turns calls cells ≡ Some h)
+
+-- whatever calls are made, some right sitting has just these calls, and it can be executed
+abbrev pub Every-sitting-comes-out : Type 0 → Type 0
+Every-sitting-comes-out V =
+    (same : V → V → Bool) → Decides same → (book : List (Entry V)) → BookRules book → (supplied : ℕ) →
+    (calls : List (Call V)) → All Symbols calls →
+    (h : List (Event V)) × Right book supplied h × (map (λ e. e .call) h ≡ calls)

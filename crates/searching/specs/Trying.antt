@@ -40,7 +40,8 @@ module _ {V : Type 0} (same : V → V → Bool) (book : List (Entry V)) (used : 
   -- the goal is unified with that of an earlier step
   unfoldable pub with-step : List (Cell V) → Replay V → Goal → ℕ → Move V
   with-step cells r g n =
-      unify same cells (placed used (r .offsets) (g .term)) (placed used (r .offsets) (getD (r .taken) n (g .term)))
+      unify same cells (placed used (r .offsets) (g .term))
+      (placed used (r .offsets) (getD (r .taken) n (g .term)))
 
   -- the step of that mode and number, which keeps its rule, is tried
   unfoldable pub attempt : List (Cell V) → Replay V → Goal → ℕ → ℕ → Move V

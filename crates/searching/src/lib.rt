@@ -8,6 +8,7 @@ ghost use Rattle.theory.specs.Entries.{BookRules};
 ghost use Rattle.theory.specs.Sittings.{Right};
 ghost use Rattle.searching.specs.Theorems.{Search-is-right, Check-is-right};
 ghost use Rattle.searching.specs.Theorems.{Answers-are-right, Sittings-are-right, Turns-suffice};
+ghost use Rattle.searching.specs.Theorems.{Every-sitting-comes-out};
 ghost use Rattle.searching.specs.Table.{executed, table};
 
 // Whatever the executable search comes to is what the definition of searches gives, and after a grant its cells
@@ -43,6 +44,13 @@ pub fn sittings_are_right<V>() -> u8
 // Where a search has two turns for each try of its budget, and one more, every call comes to an answer.
 pub fn turns_suffice<V>() -> u8
     ensures { λ _. ⌜ Turns-suffice V ⌝ }
+{
+    0
+}
+
+// Whatever calls are made, over any kind of leaf whose sameness is tested, some right sitting has just these calls.
+pub fn every_sitting_comes_out<V>() -> u8
+    ensures { λ _. ⌜ Every-sitting-comes-out V ⌝ }
 {
     0
 }
