@@ -119,7 +119,7 @@ module _ {L : Type 0} where
     node-kept f xs hf four u w = record {
       right = λ book k ok st. (
         (hf, inr ((λ h. omega arith), pass k (old .used) xs (wrote-or r) (NextCell (supplied old) k (wrote-or r)) (known-used old k st) u (next-cell old new (node f xs) r w k st))),
-        next-stands old new (node f xs) r w k st
+        next-stands old new (node f xs) r w k st,
       );
       as-many = next-many old new (node f xs) r w;
       unaltered = next-unaltered old new (node f xs) r w;
@@ -179,7 +179,7 @@ module _ {L : Type 0} where
           let z = d .2 (k .equations) (means-known (in-use old) k st) in (
             pass k (old .used) (x ∷ y ∷ []) accepted _ (known-used old k st) u (inr (long, inl (z .0, refl))),
             stands-for (in-use new) (record { used = k .used; equations = k .equations ++ (equal x y ∷ []) })
-                (d .1 ∙ number-known (in-use old) k st) (z .1)
+                (d .1 ∙ number-known (in-use old) k st) (z .1),
           );
       as-many = m;
       unaltered = λ b. absurd b;
@@ -190,7 +190,7 @@ module _ {L : Type 0} where
       right = λ book k ok st. (
         pass k (old .used) (x ∷ y ∷ []) (refused clash) _ (known-used old k st) u
             (inr (long, inr (d .1 (k .equations) (means-known (in-use old) k st), refl))),
-        subst (λ cs. StandsFor (map lying cs) k) (sym (d .0)) st
+        subst (λ cs. StandsFor (map lying cs) k) (sym (d .0)) st,
       );
       as-many = m;
       unaltered = λ b. d .0;
@@ -201,7 +201,7 @@ module _ {L : Type 0} where
       right = λ book k ok st. (
         pass k (old .used) (x ∷ y ∷ []) same _ (known-used old k st) u
             (inr (long, inl (t (k .equations) (means-known (in-use old) k st), refl))),
-        subst (λ cs. StandsFor (map lying cs) k) (sym e) st
+        subst (λ cs. StandsFor (map lying cs) k) (sym e) st,
       );
       as-many = m;
       unaltered = λ b. e;
@@ -210,7 +210,7 @@ module _ {L : Type 0} where
       right = λ book k ok st. (
         pass k (old .used) (x ∷ y ∷ []) different _ (known-used old k st) u
             (inr (long, inr (t (k .equations) (means-known (in-use old) k st), refl))),
-        subst (λ cs. StandsFor (map lying cs) k) (sym e) st
+        subst (λ cs. StandsFor (map lying cs) k) (sym e) st,
       );
       as-many = m;
       unaltered = λ b. e;

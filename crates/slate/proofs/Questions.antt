@@ -50,7 +50,7 @@ module _ {L : Type 0} where
       reads c e = (
         nth-read (s .used) (vec-items (s .cells)) i c h part-of e,
         counted-read (take (s .used) (vec-items (s .cells))) i c (omega (arith, length-take (s .used) (vec-items (s .cells)), part-of))
-            (e ∙ sym (getD-take (s .used) (vec-items (s .cells)) i c h)) (sound-of .counted)
+            (e ∙ sym (getD-take (s .used) (vec-items (s .cells)) i c h)) (sound-of .counted),
       )
 
       pub leads : (r : ℕ) → r ≡ root (in-use s) i → r < s .used → Leads s i (Ok r)

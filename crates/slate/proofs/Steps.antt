@@ -15,7 +15,7 @@ use Rattle.std.proofs.shelf.Tests.{cases-lt}
 use Rattle.std.specs.declared.option.Option.the-variants.{Some, None}
 use Rattle.slate.specs.declared.cell.Cell.{Cell}
 use Rattle.slate.specs.declared.cell.Content.{Content as Written}
-use Rattle.slate.specs.declared.cell.Content.the-variants.{Node}
+use Rattle.slate.specs.declared.cell.Content.the-variants.{Open, Leaf, Node}
 use Rattle.slate.specs.Cells.{cell-of, cells-of, content-of, AllCounted}
 use Rattle.slate.specs.Loops.{Ready, state, moved, Did, Told}
 use Rattle.unify.specs.Cells.{Content, node, root, joined-at, content-at, rejoin, unjoined}
@@ -118,10 +118,35 @@ module _ {L : Type 0} (cells : List (Cell L)) (work : List ℕ) (n : ℕ) (ok : 
   node-inside same oj i f m xs c e p = subst (λ k. All (λ x. x < k) (take m xs)) (number cells)
       (arguments-inside same oj (state cells work n 0) (ok .steady) i f (take m xs) (sym e ∙ ap content-of p))
 
-pub paying : {L : Type 0} (same : L → L → Bool) (oj : Bool) (s : State L) (i j : ℕ) (c c′ d d′ : Written L) → Some j ≡ joined-at (s .cells) i →
+-- what a joined cell owes
+pub paying : {L : Type 0} (same : L → L → Bool) (oj : Bool) (s : State L) (i j : ℕ) → Some j ≡ joined-at (s .cells) i →
+    meet-arguments same oj s (content-at (s .cells) i) (content-at (s .cells) j) ≡ pay same oj s i
+paying same oj s i j e = sym (pay-some same oj s i j (content-at (s .cells) i) (content-at (s .cells) j) (sym e) refl refl)
+
+-- the arguments of what the code has read
+pub arguments-read : {L : Type 0} (same : L → L → Bool) (oj : Bool) (s : State L) (i j : ℕ) (c c′ d d′ : Written L) →
     content-of c ≡ content-at (s .cells) i → content-of d ≡ content-at (s .cells) j → c ≡ c′ → d ≡ d′ →
-    meet-arguments same oj s (content-of c′) (content-of d′) ≡ pay same oj s i
-paying same oj s i j c c′ d d′ e p q x y = sym (pay-some same oj s i j (content-of c′) (content-of d′) (sym e) (sym p ∙ ap content-of x) (sym q ∙ ap content-of y))
+    meet-arguments same oj s (content-of c′) (content-of d′) ≡ meet-arguments same oj s (content-at (s .cells) i) (content-at (s .cells) j)
+arguments-read same oj s i j c c′ d d′ p q x y =
+    λ k. meet-arguments same oj s ((sym (ap content-of x) ∙ p) k) ((sym (ap content-of y) ∙ q) k)
+
+-- what is no node has no arguments
+module _ {L : Type 0} (same : L → L → Bool) (oj : Bool) (s : State L) where
+  pub no-first : (c : Written L) (d : Content L) → ((f : ℕ) (xs : List ℕ) (m : ℕ) → c ≡ Node f xs m → ⊥) →
+      went s ≡ meet-arguments same oj s (content-of c) d
+  unfolding meet-arguments
+  no-first Open d h = refl
+  no-first (Leaf v) d h = refl
+  no-first (Node f xs m) d h = absurd (h f xs m refl)
+
+  pub no-second : (c d : Written L) → ((f : ℕ) (xs : List ℕ) (m : ℕ) → d ≡ Node f xs m → ⊥) →
+      went s ≡ meet-arguments same oj s (content-of c) (content-of d)
+  unfolding meet-arguments
+  no-second Open d h = refl
+  no-second (Leaf v) d h = refl
+  no-second (Node f xs m) Open h = refl
+  no-second (Node f xs m) (Leaf v) h = refl
+  no-second (Node f xs m) (Node g ys n) h = absurd (h g ys n refl)
 
 pub not-paying : {L : Type 0} (same : L → L → Bool) (oj : Bool) (s : State L) (i : ℕ) → None ≡ joined-at (s .cells) i → went s ≡ pay same oj s i
 not-paying same oj s i e = sym (pay-none same oj s i (sym e))

@@ -3,10 +3,10 @@ ghost use mathlib.Core.Path.{_≡_};
 ghost use Prim.Native.Nat.{ℕ, _+_, _<_};
 ghost use lib.ListN.{length};
 ghost use Rattle.std.specs.declared.option.Option.the-variants.{Some};
-ghost use Rattle.unify.specs.Cells.{rejoin};
+ghost use Rattle.unify.specs.Cells.{content-at, rejoin};
 ghost use Rattle.unify.specs.Unify.{fits as fitting};
 ghost use Rattle.unify.specs.Unify.{meet as meeting, link as linking};
-ghost use Rattle.unify.specs.Unify.{meet-all as meeting-all, pay as paying, rest, join as joining};
+ghost use Rattle.unify.specs.Unify.{meet-all as meeting-all, pay as paying, meet-arguments as meeting-arguments, rest, join as joining};
 ghost use Rattle.std.specs.Finite.{All};
 ghost use Rattle.slate.specs.Cells.{cells-of, content-of, Counted, AllCounted};
 ghost use Rattle.slate.specs.Loops.{Ready, state};
@@ -142,6 +142,42 @@ fn meet_all<L: Leaf>(
     true
 }
 
+// Makes the arguments of two nodes meet; what is no node has none.
+fn meet_arguments<L: Leaf>(
+    cells: &mut [Cell<L>],
+    trail: &mut [u16],
+    used: &mut usize,
+    open_joins: bool,
+    i: u16,
+    j: u16,
+) -> bool
+    requires ready { ⌜ Ready (now cells) (now trail) (now used) ⌝ }
+    requires first { ⌜ i < length (now cells) ⌝ }
+    requires second { ⌜ j < length (now cells) ⌝ }
+    ensures { λ r. ⌜ Stepped (λ s. meeting-arguments (L·Leaf .alike) «open_joins» s (content-at (s .cells) i) (content-at (s .cells) j)) (now (cells .entry)) (now (trail .entry)) (now (used .entry)) r (now (cells .exit)) (now (trail .exit)) (now (used .exit)) ⌝ }
+{
+    let c = written(cells, i);
+    let d = written(cells, j);
+    let Content::Node {
+        arguments: xs,
+        count: m,
+        ..
+    } = c
+    else {
+        return true;
+    };
+    let Content::Node {
+        arguments: ys,
+        count: n,
+        ..
+    } = d
+    else {
+        return true;
+    };
+    let (left, right) = (&xs[..m as usize], &ys[..n as usize]);
+    meet_all(cells, trail, used, open_joins, left, right)
+}
+
 // Pays what a joined cell owes: that its arguments meet those of its target.
 fn pay<L: Leaf>(
     cells: &mut [Cell<L>],
@@ -156,36 +192,7 @@ fn pay<L: Leaf>(
 {
     match link(cells, i) {
         None => true,
-        Some(j) => {
-            let c = written(cells, i);
-            let d = written(cells, j);
-            match c {
-                Content::Open => true,
-                Content::Leaf(_) => true,
-                Content::Node {
-                    arguments: xs,
-                    count: m,
-                    ..
-                } => match d {
-                    Content::Open => true,
-                    Content::Leaf(_) => true,
-                    Content::Node {
-                        arguments: ys,
-                        count: n,
-                        ..
-                    } => {
-                        meet_all(
-                            cells,
-                            trail,
-                            used,
-                            open_joins,
-                            &xs[..m as usize],
-                            &ys[..n as usize],
-                        )
-                    }
-                },
-            }
-        }
+        Some(j) => meet_arguments(cells, trail, used, open_joins, i, j),
     }
 }
 

@@ -10,11 +10,11 @@ ghost use Rattle.slate.specs.Cells.{content-of, Counted};
 ghost use Rattle.slate.specs.Slates.{in-use, supplied, Wiped, Kept, wrote-or, Written};
 use crate::cell::Cell;
 use crate::cell::Content;
+use crate::input::all_in_use;
 use crate::limits::MOST_ARGUMENTS;
 use crate::limits::MOST_CELLS;
 use crate::refusal::Refusal;
 use crate::slate::Slate;
-use crate::input::all_in_use;
 use leaf::kind::Leaf;
 
 // Writes into a cell, which is joined to none.

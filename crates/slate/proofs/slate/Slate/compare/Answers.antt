@@ -53,13 +53,18 @@ compare-first-equal-requires g c κs =
 pub ghost-self : need.ghost-self
 ghost-self g c =
     let s = c .args .self .now in
-    let ws = c .compare-first-equal .last .cells in
-    (s .within, (s .few, (
-      ∣ subst (λ l. Sound (take (s .used) l))
-          (sym (refill (vec-len (s .cells)) (vec-items (s .cells)) ws (s .cells .ok .0) (c .compare-first-equal .ensures .as-many ∙ ap length (c .as-mut-slice .ensures .value))))
-          (c .compare-first-equal .ensures .sound) ∣₁,
-      tt
-    )))
+    let ws = c .compare-first-equal .last .cells in (
+      s .within,
+      (
+        s .few,
+        (
+          ∣ subst (λ l. Sound (take (s .used) l))
+              (sym (refill (vec-len (s .cells)) (vec-items (s .cells)) ws (s .cells .ok .0) (c .compare-first-equal .ensures .as-many ∙ ap length (c .as-mut-slice .ensures .value))))
+              (c .compare-first-equal .ensures .sound) ∣₁,
+          tt,
+        ),
+      ),
+    )
 
 pub returns : need.returns
 returns g c =

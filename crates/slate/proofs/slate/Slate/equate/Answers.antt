@@ -48,13 +48,18 @@ unify-first-requires g c κs =
 pub ghost-self : need.ghost-self
 ghost-self g c =
     let s = c .args .self .now in
-    let ws = c .unify-first .last .cells in
-    (s .within, (s .few, (
-      ∣ subst (λ l. Sound (take (s .used) l))
-          (sym (refill (vec-len (s .cells)) (vec-items (s .cells)) ws (s .cells .ok .0) (c .unify-first .ensures .as-many ∙ ap length (c .as-mut-slice .ensures .value))))
-          (c .unify-first .ensures .sound) ∣₁,
-      tt
-    )))
+    let ws = c .unify-first .last .cells in (
+      s .within,
+      (
+        s .few,
+        (
+          ∣ subst (λ l. Sound (take (s .used) l))
+              (sym (refill (vec-len (s .cells)) (vec-items (s .cells)) ws (s .cells .ok .0) (c .unify-first .ensures .as-many ∙ ap length (c .as-mut-slice .ensures .value))))
+              (c .unify-first .ensures .sound) ∣₁,
+          tt,
+        ),
+      ),
+    )
 
 pub returns-then-unify-first : need.returns-then-unify-first
 returns-then-unify-first g c =
