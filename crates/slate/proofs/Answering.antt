@@ -2,38 +2,32 @@
 use mathlib.Core.Path.{_≡_, refl, sym, _∙_, ap, subst}
 use mathlib.Core.Bool.{Bool, true, false}
 use mathlib.Core.List.{List, [], _∷_, _++_, map}
-use mathlib.Core.Logic.{_⊎_, inl, inr}
-use Prim.Native.Nat.{ℕ, zero, suc, min, _*_, _<_, _≤_}
+use mathlib.Core.Logic.{inl, inr}
+use Prim.Native.Nat.{ℕ, suc, _*_, _<_, _≤_}
 use native.Mathlib.Omega.{arith}
-use lib.Dec.{ltb}
 use lib.ListN.{length, take, length-take, length-map}
 use Rattle.std.specs.Of.Vec.{vec-items}
 use Rattle.std.specs.Finite.{All}
-use Rattle.std.proofs.shelf.Tests.{ltb-true, ltb-false}
 use Rattle.std.specs.declared.option.Option.{Option}
 use Rattle.std.specs.declared.option.Option.the-variants.{Some, None}
 use Rattle.std.specs.declared.result.Result.{Result}
 use Rattle.std.specs.declared.result.Result.the-variants.{Ok, Err}
-use Rattle.theory.specs.Equations.{Equation, is-leaf, is-node, equal, Solvable, Entails}
-use Rattle.theory.specs.Entries.{Entry}
-use Rattle.theory.specs.Check.{If}
-use Rattle.theory.specs.Calls.{Call, write-open, write-leaf, write-node, equate, compare}
+use Rattle.theory.specs.Equations.{equal}
+use Rattle.theory.specs.Calls.{write-open, write-leaf, write-node, equate, compare}
 use Rattle.theory.specs.Calls.{Answer, wrote, accepted, same, different, refused}
-use Rattle.theory.specs.Calls.{not-in-use, too-many-arguments, too-short, no-cell, clash}
+use Rattle.theory.specs.Calls.{not-in-use, too-many-arguments, too-short, clash}
 use Rattle.theory.specs.Known.{Known, written}
 use Rattle.theory.specs.Answers.{capacity, first-unused, UsedOr, NextCell}
-use Rattle.theory.specs.Carried.{StandsFor, RightCall}
+use Rattle.theory.specs.Carried.{StandsFor}
 use Rattle.unify.specs.Cells as C
 use Rattle.unify.specs.Cells.{variable, leaf, node}
 use Rattle.unify.specs.Solved.{and-content}
-use Rattle.unify.specs.Meaning.{Means}
 use Rattle.slate.specs.declared.refusal.Refusal.{Refusal}
-use Rattle.slate.specs.declared.refusal.Refusal.the-variants.{NotInUse, TooManyArguments, TooShort, NoCell, Clash}
 use Rattle.slate.specs.declared.slate.Slate.{Slate}
 use Rattle.slate.specs.Cells.{cell-of, lying}
 use Rattle.slate.specs.Loops.{Given, Did, Told}
 use Rattle.slate.specs.Refusals.{refusal-of}
-use Rattle.slate.specs.Slates.{supplied, in-use, on-slate, Refuses, Kept, wrote-or, accepted-or, same-or, Written}
+use Rattle.slate.specs.Slates.{supplied, in-use, on-slate, Refuses, Kept, wrote-or, same-or, Written}
 use Rattle.slate.proofs.Unused.{all-used}
 use Rattle.slate.proofs.Next.{sound-out}
 use Rattle.slate.proofs.Standing.{means-known, number-known, stands-for, stands-written}

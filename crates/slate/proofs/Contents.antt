@@ -1,5 +1,5 @@
 -- What was written into a cell, as the unifier has it and as a sitting has it.
-use mathlib.Core.Path.{_≡_, refl, sym, _∙_, ap}
+use mathlib.Core.Path.{_≡_, refl}
 use mathlib.Core.List.{List}
 use Prim.Native.Nat.{ℕ}
 use Rattle.theory.specs.Equations.{Equation}

@@ -1,15 +1,15 @@
 -- Whether contents fit, case by case.
-use mathlib.Core.Path.{_≡_, refl, sym, _∙_, ap, subst}
-use mathlib.Core.Bool.{Bool, true, false, cond}
+use mathlib.Core.Path.{_≡_, refl, sym, _∙_, ap}
+use mathlib.Core.Bool.{Bool, false, cond}
 use mathlib.Core.List.{List}
-use Prim.Native.Nat.{ℕ, min, _≤_, _<_}
+use Prim.Native.Nat.{ℕ, _≤_}
 use native.Mathlib.Omega.{arith}
 use lib.Dec.{eqb}
 use lib.ListN.{length, take, length-take}
 use Rattle.std.proofs.shelf.Tests.{eq-eqb, ne-eqb}
 use Rattle.slate.specs.declared.cell.Content.{Content}
-use Rattle.slate.specs.declared.cell.Content.the-variants.{Open, Leaf, Node}
-use Rattle.slate.specs.Cells.{content-of, Counted}
+use Rattle.slate.specs.declared.cell.Content.the-variants.{Open, Node}
+use Rattle.slate.specs.Cells.{content-of}
 use Rattle.unify.specs.Unify.{fits}
 
 module _ {L : Type 0} (same : L → L → Bool) (oj : Bool) where

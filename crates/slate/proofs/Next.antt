@@ -1,13 +1,12 @@
 -- The next cell of a slate.
 use mathlib.Core.Path.{_≡_, refl, sym, _∙_, ap, subst}
-use mathlib.Core.HLevel.{Π-prop, →-prop, ×-prop}
-use mathlib.Core.List.{List, [], _∷_, _++_, map, map-append}
+use mathlib.Core.HLevel.{×-prop}
+use mathlib.Core.List.{List, [], _∷_, _++_, map-append}
 use mathlib.Core.Logic.{∥∥₁-elim}
-use Prim.Native.Nat.{ℕ, min, _+_, _<_, _≤_}
+use Prim.Native.Nat.{ℕ, _+_, _<_}
 use native.Mathlib.Bridge.{le-prop}
 use native.Mathlib.Omega.{arith}
 use lib.ListN.{length, take, drop, set, length-take, length-map, length-set}
-use Rattle.std.specs.Finite.{All}
 use Rattle.std.proofs.shelf.Lists.{take-more-set, take-at}
 use Rattle.std.proofs.shelf.Elements.{all-push}
 use Rattle.std.specs.declared.option.Option.the-variants.{None}

@@ -1,8 +1,8 @@
 -- What is read from a slate.
-use mathlib.Core.Path.{_≡_, refl, sym, _∙_, ap, subst}
+use mathlib.Core.Path.{_≡_, refl, sym, _∙_, ap}
 use mathlib.Core.Bool.{Bool, true, false}
 use mathlib.Core.List.{List, [], _∷_}
-use mathlib.Core.Logic.{_⊎_, inl, inr}
+use mathlib.Core.Logic.{inl, inr}
 use Prim.Native.Nat.{ℕ, zero, suc, _<_, _≤_}
 use native.Mathlib.Nat.{not-suc-le-zero, le-of-suc-le-suc}
 use native.Mathlib.Omega.{arith}
@@ -10,12 +10,8 @@ use lib.ListN.{length, take, getD, length-take}
 use Rattle.std.specs.Of.Vec.{vec-items}
 use Rattle.std.specs.Finite.{nth}
 use Rattle.std.proofs.shelf.Lists.{getD-take}
-use Rattle.std.specs.declared.option.Option.the-variants.{Some, None}
+use Rattle.std.specs.declared.option.Option.the-variants.{Some}
 use Rattle.std.specs.declared.result.Result.the-variants.{Ok}
-use Rattle.theory.specs.Equations.{IsAtom}
-use Rattle.theory.specs.Check.{If}
-use Rattle.theory.specs.Known.{Known}
-use Rattle.theory.specs.Carried.{StandsFor}
 use Rattle.unify.specs.Cells.{root, joined-at, content-at}
 use Rattle.unify.proofs.Roots.{root-ends}
 use Rattle.unify.proofs.Meant.{meaning}
@@ -23,7 +19,7 @@ use Rattle.slate.specs.declared.cell.Cell.{Cell}
 use Rattle.slate.specs.declared.slate.Slate.{Slate}
 use Rattle.slate.specs.Cells.{cell-of, cells-of, Sound}
 use Rattle.slate.specs.Loops.{TellsNode}
-use Rattle.slate.specs.Slates.{in-use, on-slate, Reads, Leads, TellsAtom}
+use Rattle.slate.specs.Slates.{in-use, Reads, Leads, TellsAtom}
 use Rattle.slate.proofs.Read.{counted-read}
 use Rattle.slate.proofs.Next.{sound-out}
 use Rattle.slate.proofs.Standing.{means-known}

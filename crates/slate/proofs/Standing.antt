@@ -9,7 +9,7 @@ use Rattle.std.specs.declared.option.Option.{Option}
 use Rattle.std.specs.declared.option.Option.the-variants.{Some, None}
 use Rattle.theory.specs.Equations.{Equation, MeetsAll}
 use Rattle.theory.specs.Known.{Known}
-use Rattle.theory.specs.Carried.{Content, blank, leaf, node, Cell, states, StandsFor}
+use Rattle.theory.specs.Carried.{Content, node, Cell, states, StandsFor}
 use Rattle.theory.specs.Carried as T
 use Rattle.unify.specs.Cells.{content-at}
 use Rattle.unify.specs.Cells as C

@@ -1,7 +1,7 @@
 -- The steps of the loops against the unifier's, over the lists that the code has.
 use mathlib.Core.Path.{_≡_, refl, sym, _∙_, ap, subst}
 use mathlib.Core.Bool.{Bool, true, false}
-use mathlib.Core.List.{List, [], _∷_, _++_, map}
+use mathlib.Core.List.{List, [], _∷_, _++_}
 use mathlib.Core.Logic.{_⊎_, inl, inr}
 use Prim.Native.Nat.{ℕ, zero, suc, _+_, _-_, min, _<_, _≤_}
 use native.Mathlib.Nat.{not-suc-le-zero, le-of-suc-le-suc}
@@ -18,7 +18,7 @@ use Rattle.slate.specs.declared.cell.Content.{Content as Written}
 use Rattle.slate.specs.declared.cell.Content.the-variants.{Open, Leaf, Node}
 use Rattle.slate.specs.Cells.{cell-of, cells-of, content-of, AllCounted}
 use Rattle.slate.specs.Loops.{Ready, state, moved, Did, Told}
-use Rattle.unify.specs.Cells.{Content, node, root, joined-at, content-at, rejoin, unjoined}
+use Rattle.unify.specs.Cells.{Content, root, joined-at, content-at, rejoin, unjoined}
 use Rattle.unify.specs.Unify.{State, Move, went, clash, fits, meet, meet-all, meet-arguments, pay, next, after, start, clear, rest, join, unify, compare}
 use Rattle.unify.specs.Solved.{Solved}
 use Rattle.unify.specs.Cells as C

@@ -1,8 +1,6 @@
-use borrow.Author.Needs.{needs}
-use mathlib.Core.Path.{_≡_, refl, sym, _∙_, ap, subst}
+use mathlib.Core.Path.{_≡_, sym, _∙_, subst}
 use Prim.Native.Nat.{_<_, _≤_}
 use lib.ListN.{length, length-map}
-use Rattle.unify.specs.Cells.{joined-at, root}
 use Rattle.unify.proofs.Roots.{root-some, root-none, target-inside}
 use Rattle.slate.specs.Cells.{cell-of, cells-of}
 use Rattle.slate.proofs.chains.root.Needs as need

@@ -1,4 +1,4 @@
-use mathlib.Core.Path.{_≡_, refl, sym, _∙_}
+use mathlib.Core.Path.{refl, sym, _∙_}
 use Rattle.slate.proofs.Unused.{one-used, one-unused, none-left}
 use Rattle.slate.proofs.input.all_in_use.Needs as need
 

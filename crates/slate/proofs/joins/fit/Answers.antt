@@ -1,7 +1,7 @@
-use mathlib.Core.Path.{_≡_, ap, sym, _∙_, subst, refl}
+use mathlib.Core.Path.{_∙_, subst, refl}
 use Rattle.unify.specs.Unify.{fits}
 use Rattle.slate.specs.declared.cell.Content.the-variants.{Open, Leaf, Node}
-use Rattle.slate.specs.Cells.{content-of, Counted}
+use Rattle.slate.specs.Cells.{Counted}
 use Rattle.slate.proofs.Labels.{on, nodes-same, nodes-other}
 use Rattle.slate.proofs.joins.fit.Needs as need
 

@@ -1,4 +1,4 @@
-use mathlib.Core.Path.{_≡_, refl, sym, _∙_, ap, subst}
+use mathlib.Core.Path.{_∙_}
 use Rattle.slate.specs.Loops.{state}
 use Rattle.slate.proofs.Steps.{start-ready, join-clash, join-went}
 use Rattle.slate.proofs.joins.join.Needs as need

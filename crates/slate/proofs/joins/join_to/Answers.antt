@@ -1,4 +1,3 @@
-use mathlib.Core.Path.{_≡_}
 use lib.ListN.{length-set}
 use Rattle.std.specs.declared.option.Option.the-variants.{Some}
 use Rattle.slate.proofs.Read.{set-rejoin, set-counted}

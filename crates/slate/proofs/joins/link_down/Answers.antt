@@ -1,4 +1,4 @@
-use mathlib.Core.Path.{_≡_, refl, sym, _∙_, ap}
+use mathlib.Core.Path.{refl}
 use Rattle.std.proofs.shelf.Lists.{take-more-set}
 use lib.ListN.{length-set}
 use Rattle.unify.specs.Unify.{link}

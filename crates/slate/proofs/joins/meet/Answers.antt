@@ -1,15 +1,12 @@
-use mathlib.Core.Path.{_≡_, refl, sym, _∙_, ap, subst, subst₂}
+use mathlib.Core.Path.{_≡_, refl, _∙_, ap, subst₂}
 use mathlib.Core.Bool.{true, false}
 use Prim.Native.Nat.{ℕ, _<_, _≤_}
 use native.Mathlib.Omega.{arith}
 use lib.ListN.{length}
-use Rattle.slate.specs.Cells.{cells-of}
-use Rattle.slate.specs.Loops.{state, moved}
+use Rattle.slate.specs.Loops.{state}
 use Rattle.unify.specs.Unify.{meet, went}
-use Rattle.unify.specs.Steady.{StaysSteady, reached}
-use Rattle.unify.proofs.Steadiness.{meet-steady}
 use Rattle.unify.proofs.Turns.{meet-same, meet-unfit, meet-up, meet-down}
-use Rattle.slate.proofs.Steps.{few, room, number, fit-at, ready-met}
+use Rattle.slate.proofs.Steps.{few, room, fit-at, ready-met}
 use Rattle.slate.proofs.joins.meet.Needs as need
 
 pub root-r-requires : need.root-r-requires

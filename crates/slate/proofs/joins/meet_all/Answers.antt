@@ -1,6 +1,6 @@
-use mathlib.Core.Path.{_≡_, refl, sym, _∙_, ap, subst}
+use mathlib.Core.Path.{sym, _∙_, subst}
 use native.Mathlib.Omega.{arith}
-use Prim.Native.Nat.{ℕ, _<_, _≤_, min}
+use Prim.Native.Nat.{_<_}
 use lib.ListN.{length, getD}
 use Rattle.slate.specs.Loops.{state}
 use Rattle.slate.proofs.Steps.{all-at, one-pair, one-clash, no-pair}

@@ -1,4 +1,4 @@
-use mathlib.Core.Path.{_≡_, refl, sym, _∙_, ap}
+use mathlib.Core.Path.{refl, _∙_}
 use Rattle.unify.specs.Unify.{meet-arguments}
 use Rattle.slate.specs.declared.cell.Content.the-variants.{Node}
 use Rattle.slate.specs.Loops.{state}

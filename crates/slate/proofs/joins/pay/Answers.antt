@@ -1,4 +1,4 @@
-use mathlib.Core.Path.{_≡_, refl, sym, _∙_, ap, subst}
+use mathlib.Core.Path.{refl, _∙_}
 use Rattle.slate.specs.Loops.{state}
 use Rattle.slate.proofs.Steps.{joined-inside, paying, not-paying}
 use Rattle.slate.proofs.joins.pay.Needs as need

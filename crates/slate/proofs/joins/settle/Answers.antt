@@ -1,8 +1,5 @@
-use mathlib.Core.Path.{_≡_, refl, sym, _∙_, ap, subst}
+use mathlib.Core.Path.{_∙_}
 use native.Mathlib.Omega.{arith}
-use Prim.Native.Nat.{ℕ, _+_, _<_, _≤_}
-use lib.ListN.{length}
-use Rattle.slate.specs.Loops.{state}
 use Rattle.slate.proofs.Steps.{entry-in, few-turns, end-of-trail, turn-went, turn-clash}
 use Rattle.slate.proofs.joins.settle.Needs as need
 

@@ -1,7 +1,7 @@
-use mathlib.Core.Path.{_≡_, refl, sym, _∙_, ap, subst}
+use mathlib.Core.Path.{_≡_, sym, _∙_, ap, subst}
 use native.Mathlib.Omega.{arith}
-use Prim.Native.Nat.{ℕ, _-_, _<_, _≤_}
-use lib.ListN.{length, getD, take}
+use Prim.Native.Nat.{_-_, _<_}
+use lib.ListN.{getD, take}
 use Rattle.unify.specs.Unify.{clear}
 use Rattle.slate.specs.Cells.{cells-of}
 use Rattle.slate.proofs.Steps.{taken-in, one-back}

@@ -1,5 +1,5 @@
 use mathlib.Core.Path.{_≡_}
-use Prim.Native.Nat.{ℕ, _≤_}
+use Prim.Native.Nat.{_≤_}
 use lib.ListN.{length, take}
 use Rattle.unify.specs.Unify.{clear}
 use Rattle.slate.specs.Cells.{AllCounted, cells-of}

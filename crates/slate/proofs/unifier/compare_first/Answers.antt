@@ -1,6 +1,6 @@
 use mathlib.Core.Path.{_≡_, sym, _∙_, ap, subst}
 use mathlib.Core.List.{_++_}
-use lib.ListN.{length, take, drop}
+use lib.ListN.{take, drop}
 use Rattle.slate.specs.Cells.{cells-of, Sound}
 use Rattle.slate.proofs.Front.{front, front-as-many}
 use Rattle.slate.proofs.unifier.compare_first.Needs as need

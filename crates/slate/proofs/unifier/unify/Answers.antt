@@ -1,11 +1,11 @@
-use mathlib.Core.Path.{_≡_, refl, sym, _∙_, ap, subst}
-use Prim.Native.Nat.{ℕ, _<_, _≤_}
-use lib.ListN.{length, take}
+use mathlib.Core.Path.{sym, subst}
+use Prim.Native.Nat.{_<_}
+use lib.ListN.{take}
 use Rattle.std.specs.Finite.{All}
 use Rattle.slate.specs.Cells.{cells-of}
 use Rattle.slate.specs.Loops.{state}
 use Rattle.slate.proofs.Sameness.{decided}
-use Rattle.slate.proofs.Steps.{number, agreed, refused, told}
+use Rattle.slate.proofs.Steps.{number, agreed, refused}
 use Rattle.unify.specs.Solved.{Solved}
 use Rattle.slate.proofs.unifier.unify.Needs as need
 

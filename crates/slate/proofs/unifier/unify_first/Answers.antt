@@ -1,6 +1,6 @@
-use mathlib.Core.Path.{_≡_, sym, ap, subst}
+use mathlib.Core.Path.{_≡_, sym, subst}
 use mathlib.Core.List.{_++_}
-use lib.ListN.{length, take, drop}
+use lib.ListN.{take, drop}
 use Rattle.slate.specs.Cells.{cells-of, Sound}
 use Rattle.slate.specs.Loops.{Did}
 use Rattle.slate.proofs.Front.{front, front-as-many}

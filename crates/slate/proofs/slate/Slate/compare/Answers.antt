@@ -1,18 +1,18 @@
 use mathlib.Core.Path.{_≡_, refl, sym, _∙_, ap, subst}
-use mathlib.Core.List.{[], _∷_, _++_}
+use mathlib.Core.List.{_++_}
 use Prim.Native.Nat.{_*_, _<_, _≤_}
 use native.Mathlib.Omega.{arith}
 use lib.ListN.{length, take, drop}
 use base.Stored.{coded-set}
 use Rattle.std.specs.Of.Vec.{vec-len, vec-items}
 use Rattle.std.proofs.shelf.Results.{err-from-errBy}
-use Rattle.std.specs.declared.result.Result.the-variants.{Ok, Err}
+use Rattle.std.specs.declared.result.Result.the-variants.{Err}
 use Rattle.theory.specs.Calls.{compare}
 use Rattle.theory.specs.Answers.{capacity}
 use Rattle.slate.specs.declared.refusal.Refusal.the-variants.{NotInUse, TooShort}
 use Rattle.slate.specs.Cells.{cells-of, Sound}
 use Rattle.slate.specs.Loops.{Given, Told}
-use Rattle.slate.specs.Slates.{supplied, Kept, same-or}
+use Rattle.slate.specs.Slates.{Kept, same-or}
 use Rattle.slate.proofs.Next.{refill}
 use Rattle.slate.proofs.Answering.{given, compare-not-in-use, compare-too-short, compare-kept}
 use Rattle.slate.proofs.slate.Slate.compare.Needs as need

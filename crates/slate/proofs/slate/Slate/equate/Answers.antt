@@ -1,19 +1,18 @@
 use mathlib.Core.Path.{_≡_, refl, sym, _∙_, ap, subst, subst₂}
 use mathlib.Core.Bool.{true, false}
-use mathlib.Core.List.{[], _∷_, _++_}
 use Prim.Native.Nat.{_*_, _<_, _≤_}
 use native.Mathlib.Omega.{arith}
-use lib.ListN.{length, take, drop}
+use lib.ListN.{length, take}
 use base.Stored.{coded-set}
 use Rattle.std.specs.Of.Vec.{vec-len, vec-items}
 use Rattle.std.proofs.shelf.Results.{err-from-errBy}
-use Rattle.std.specs.declared.result.Result.the-variants.{Ok, Err}
+use Rattle.std.specs.declared.result.Result.the-variants.{Err}
 use Rattle.theory.specs.Calls.{equate}
 use Rattle.theory.specs.Answers.{capacity}
 use Rattle.slate.specs.declared.refusal.Refusal.the-variants.{NotInUse, TooShort}
 use Rattle.slate.specs.Cells.{cells-of, Sound}
 use Rattle.slate.specs.Loops.{Given, Did}
-use Rattle.slate.specs.Slates.{supplied, Kept, accepted-or}
+use Rattle.slate.specs.Slates.{Kept, accepted-or}
 use Rattle.slate.proofs.Next.{refill}
 use Rattle.slate.proofs.Answering.{given, equate-not-in-use, equate-too-short, equate-accepted, equate-refused}
 use Rattle.slate.proofs.slate.Slate.equate.Needs as need

@@ -1,4 +1,4 @@
-use mathlib.Core.Path.{_≡_, refl, sym, _∙_, ap, subst}
+use mathlib.Core.Path.{refl, sym, subst}
 use lib.ListN.{length, take}
 use Prim.Native.Nat.{_≤_}
 use base.Stored.{coded-set}

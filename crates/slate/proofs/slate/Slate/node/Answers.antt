@@ -1,14 +1,12 @@
-use mathlib.Core.Path.{_≡_, refl, sym, _∙_, ap, subst}
-use Prim.Native.Nat.{_<_, _≤_}
+use mathlib.Core.Path.{_≡_, sym, subst}
 use native.Mathlib.Omega.{arith}
-use lib.ListN.{length}
 use Rattle.std.proofs.shelf.Results.{err-from-errBy}
-use Rattle.std.specs.declared.result.Result.the-variants.{Ok, Err}
+use Rattle.std.specs.declared.result.Result.the-variants.{Err}
 use Rattle.unify.specs.Cells.{node}
 use Rattle.slate.specs.declared.refusal.Refusal.the-variants.{NotInUse}
 use Rattle.slate.specs.Slates.{Kept, wrote-or, Written}
 use Rattle.theory.specs.Calls.{write-node}
-use Rattle.slate.proofs.Answering.{node-kept, node-not-in-use, node-too-many, args-writable}
+use Rattle.slate.proofs.Answering.{node-kept, node-not-in-use, args-writable}
 use Rattle.slate.proofs.slate.Slate.node.Needs as need
 
 pub returns-in-Break-all-in-use : need.returns-in-Break-all-in-use

@@ -1,12 +1,11 @@
-use mathlib.Core.Path.{_≡_, refl, sym, _∙_, ap, subst}
-use mathlib.Core.List.{_++_}
-use Prim.Native.Nat.{min, _+_, _<_, _≤_}
+use mathlib.Core.Path.{refl, sym, _∙_, ap, subst}
+use Prim.Native.Nat.{min, _+_, _<_}
 use native.Mathlib.Omega.{arith}
-use lib.ListN.{length, take, drop, set}
+use lib.ListN.{length, take}
 use base.Stored.{coded-set}
 use Rattle.std.specs.Of.Vec.{vec-len, vec-items}
 use Rattle.slate.specs.Cells.{cells-of, Sound}
-use Rattle.slate.proofs.Next.{fresh, sound-out, next-cells, next-sound, after-put}
+use Rattle.slate.proofs.Next.{sound-out, next-cells, next-sound, after-put}
 use Rattle.slate.proofs.slate.Slate.write.Needs as need
 
 pub ghost-self : need.ghost-self
