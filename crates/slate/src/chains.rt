@@ -76,7 +76,8 @@ pub fn node_at_root<L: Leaf>(cells: &[Cell<L>], used: usize, i: u16) -> bool
     requires part { ⌜ used ≤ length (now cells) ⌝ }
     requires sound { ⌜ Sound (take used (now cells)) ⌝ }
     requires inside { ⌜ i < used ⌝ }
-    ensures { λ r. ⌜ TellsNode (content-at (cells-of (take used (now (cells .entry)))) (root-of (cells-of (take used (now (cells .entry)))) i)) r ⌝ }
+    ensures { λ r. ⌜ TellsNode (content-at (cells-of (take used (now (cells .entry))))
+        (root-of (cells-of (take used (now (cells .entry)))) i)) r ⌝ }
 {
     let r = root_first(cells, used, i);
     match written(&cells[..used], r) {

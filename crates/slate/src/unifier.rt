@@ -46,7 +46,8 @@ pub fn unify_first<L: Leaf>(
 ) -> bool
     requires part { ⌜ used ≤ length (now cells) ⌝ }
     requires given { ⌜ Given (take used (now cells)) (now trail) a b ⌝ }
-    ensures did { λ r. ⌜ Did (cells-of (take used (now (cells .entry)))) (cells-of (take used (now (cells .exit)))) a b r ⌝ }
+    ensures did { λ r. ⌜ Did (cells-of (take used (now (cells .entry))))
+        (cells-of (take used (now (cells .exit)))) a b r ⌝ }
     ensures sound { λ _. ⌜ Sound (take used (now (cells .exit))) ⌝ }
     ensures as_many { λ _. ⌜ length (now (cells .exit)) ≡ length (now (cells .entry)) ⌝ }
 {
@@ -64,7 +65,8 @@ pub fn compare_first<L: Leaf>(
     requires part { ⌜ used ≤ length (now cells) ⌝ }
     requires given { ⌜ Given (take used (now cells)) (now trail) a b ⌝ }
     ensures told { λ r. ⌜ Told (cells-of (take used (now (cells .entry)))) a b r ⌝ }
-    ensures left { λ _. ⌜ cells-of (take used (now (cells .exit))) ≡ cells-of (take used (now (cells .entry))) ⌝ }
+    ensures left { λ _. ⌜ cells-of (take used (now (cells .exit))) ≡
+        cells-of (take used (now (cells .entry))) ⌝ }
     ensures sound { λ _. ⌜ Sound (take used (now (cells .exit))) ⌝ }
     ensures as_many { λ _. ⌜ length (now (cells .exit)) ≡ length (now (cells .entry)) ⌝ }
 {
