@@ -13,7 +13,7 @@ use Rattle.std.specs.declared.option.Option.the-variants.{None}
 use Rattle.slate.specs.declared.cell.Content.{Content}
 use Rattle.slate.specs.declared.cell.Content.the-variants.{Open, Leaf, Node}
 use Rattle.slate.specs.declared.cell.Cell.{Cell}
-use Rattle.slate.specs.Cells.{cell-of, cells-of, content-of, Counted, AllCounted, Sound}
+use Rattle.slate.specs.Cells.{cell-of, cells-of, content-of, Counted, AllCounted, WellFormed}
 use Rattle.unify.specs.Solved.{Solved}
 use Rattle.unify.specs.Writing.{write, Writable}
 use Rattle.unify.proofs.OneProof.{solved-prop}
@@ -38,10 +38,10 @@ module _ {L : Type 0} where
   all-counted-prop (c ∷ cs) = ×-prop (counted-prop (c .content)) (all-counted-prop cs)
 
   -- soundness has one proof at most, so it comes out of a truncation
-  pub sound-out : IsSet L → (cs : List (Cell L)) → ∥ Sound cs ∥₁ → Sound cs
+  pub sound-out : IsSet L → (cs : List (Cell L)) → ∥ WellFormed cs ∥₁ → WellFormed cs
   sound-out set cs t = ∥∥₁-elim t prop (λ s. s)
     where
-      prop : IsProp (Sound cs)
+      prop : IsProp (WellFormed cs)
       prop u v = λ i. record {
         solved = solved-prop set (cells-of cs) (u .solved) (v .solved) i;
         counted = all-counted-prop cs (u .counted) (v .counted) i;
@@ -52,8 +52,8 @@ module _ {L : Type 0} where
     unfolding write
     next-cells = ap cells-of (take-more-set xs n (fresh c) h) ∙ map-append cell-of (take n xs) (fresh c ∷ [])
 
-    pub next-sound : n < 2048 → Sound (take n xs) → Counted c → Writable (cells-of (take n xs)) (content-of c) →
-        Sound (take (n + 1) (set xs n (fresh c)))
+    pub next-sound : n < 2048 → WellFormed (take n xs) → Counted c → Writable (cells-of (take n xs)) (content-of c) →
+        WellFormed (take (n + 1) (set xs n (fresh c)))
     next-sound few s k w = record {
       solved = subst Solved (sym next-cells) (writing L .one-more (cells-of (take n xs)) (s .solved) small (content-of c) w .solved);
       counted = subst AllCounted (sym (take-more-set xs n (fresh c) h)) (all-push (λ d. Counted (d .content)) (take n xs) (fresh c) (s .counted) k);

@@ -17,7 +17,7 @@ use Rattle.unify.proofs.Roots.{root-ends}
 use Rattle.unify.proofs.Meant.{meaning}
 use Rattle.slate.specs.declared.cell.Cell.{Cell}
 use Rattle.slate.specs.declared.slate.Slate.{Slate}
-use Rattle.slate.specs.Cells.{cell-of, cells-of, Sound}
+use Rattle.slate.specs.Cells.{cell-of, cells-of, WellFormed}
 use Rattle.slate.specs.Loops.{TellsNode}
 use Rattle.slate.specs.Slates.{in-use, Reads, Leads, TellsAtom}
 use Rattle.slate.proofs.Read.{counted-read}
@@ -34,7 +34,7 @@ module _ {L : Type 0} where
 
   module _ (set : IsSet L) (s : Slate L) where
     -- the cells in use are sound
-    pub sound-of : Sound (take (s .used) (vec-items (s .cells)))
+    pub sound-of : WellFormed (take (s .used) (vec-items (s .cells)))
     sound-of = sound-out set (take (s .used) (vec-items (s .cells))) (s .sound)
 
     -- as many were supplied

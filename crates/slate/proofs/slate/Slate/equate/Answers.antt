@@ -10,7 +10,7 @@ use Rattle.std.specs.declared.result.Result.the-variants.{Err}
 use Rattle.theory.specs.Calls.{equate}
 use Rattle.theory.specs.Answers.{capacity}
 use Rattle.slate.specs.declared.refusal.Refusal.the-variants.{NotInUse, TooShort}
-use Rattle.slate.specs.Cells.{cells-of, Sound}
+use Rattle.slate.specs.Cells.{cells-of, WellFormed}
 use Rattle.slate.specs.Loops.{Given, Did}
 use Rattle.slate.specs.Slates.{Kept, accepted-or}
 use Rattle.slate.proofs.Next.{refill}
@@ -52,7 +52,7 @@ ghost-self g c =
       (
         s .few,
         (
-          ∣ subst (λ l. Sound (take (s .used) l))
+          ∣ subst (λ l. WellFormed (take (s .used) l))
               (sym (refill (vec-len (s .cells)) (vec-items (s .cells)) ws (s .cells .ok .0) (c .unify-first .ensures .as-many ∙ ap length (c .as-mut-slice .ensures .value))))
               (c .unify-first .ensures .sound) ∣₁,
           tt,

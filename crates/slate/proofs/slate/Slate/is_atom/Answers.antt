@@ -3,7 +3,7 @@ use lib.ListN.{length, take}
 use Prim.Native.Nat.{_≤_}
 use base.Stored.{coded-set}
 use Rattle.unify.specs.Cells.{root, content-at}
-use Rattle.slate.specs.Cells.{cells-of, Sound}
+use Rattle.slate.specs.Cells.{cells-of, WellFormed}
 use Rattle.slate.specs.Loops.{TellsNode}
 use Rattle.slate.proofs.Questions.{sound-of, part-of, tells}
 use Rattle.slate.proofs.slate.Slate.is_atom.Needs as need
@@ -13,7 +13,7 @@ node-at-root-atom-requires g c κs =
     let s = c .args .self .now in
     record {
       part = subst (λ l. s .used ≤ length l) (sym (c .as-slice .ensures .value)) (part-of (coded-set (g .L .coded)) s);
-      sound = subst (λ l. Sound (take (s .used) l)) (sym (c .as-slice .ensures .value)) (sound-of (coded-set (g .L .coded)) s);
+      sound = subst (λ l. WellFormed (take (s .used) l)) (sym (c .as-slice .ensures .value)) (sound-of (coded-set (g .L .coded)) s);
       inside = c .if-self-cell .left;
     }
 

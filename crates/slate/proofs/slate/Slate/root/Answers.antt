@@ -3,7 +3,7 @@ use lib.ListN.{length, take}
 use Prim.Native.Nat.{_≤_}
 use base.Stored.{coded-set}
 use Rattle.unify.specs.Cells.{root}
-use Rattle.slate.specs.Cells.{cells-of, Sound}
+use Rattle.slate.specs.Cells.{cells-of, WellFormed}
 use Rattle.slate.proofs.Questions.{sound-of, part-of, leads}
 use Rattle.slate.proofs.slate.Slate.root.Needs as need
 
@@ -12,7 +12,7 @@ root-first-end-requires g c κs =
     let s = c .args .self .now in
     record {
       part = subst (λ l. s .used ≤ length l) (sym (c .as-slice .ensures .value)) (part-of (coded-set (g .L .coded)) s);
-      sound = subst (λ l. Sound (take (s .used) l)) (sym (c .as-slice .ensures .value)) (sound-of (coded-set (g .L .coded)) s);
+      sound = subst (λ l. WellFormed (take (s .used) l)) (sym (c .as-slice .ensures .value)) (sound-of (coded-set (g .L .coded)) s);
       inside = c .if-self-cell .left;
     }
 

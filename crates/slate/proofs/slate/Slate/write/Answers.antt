@@ -4,7 +4,7 @@ use native.Mathlib.Omega.{arith}
 use lib.ListN.{length, take}
 use base.Stored.{coded-set}
 use Rattle.std.specs.Of.Vec.{vec-len, vec-items}
-use Rattle.slate.specs.Cells.{cells-of, Sound}
+use Rattle.slate.specs.Cells.{cells-of, WellFormed}
 use Rattle.slate.proofs.Next.{sound-out, next-cells, next-sound, after-put}
 use Rattle.slate.proofs.slate.Slate.write.Needs as need
 
@@ -18,7 +18,7 @@ ghost-self g c =
       (
         omega (arith, room),
         (
-          ∣ subst (λ l. Sound (take (s .used + 1) l))
+          ∣ subst (λ l. WellFormed (take (s .used + 1) l))
               (sym (after-put (vec-len (s .cells)) (s .used) xs (c .as-mut-slice .result .now) (c .put .last .cells) (c .args .content) (s .cells .ok .0) (c .as-mut-slice .ensures .value) (c .put .ensures)))
               (next-sound xs (s .used) (c .args .content) inside (omega (arith, room)) (sound-out (coded-set (g .L .coded)) (take (s .used) xs) (s .sound)) (c .pre .counted) (c .pre .writable)) ∣₁,
           tt,
