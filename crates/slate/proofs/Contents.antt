@@ -10,7 +10,8 @@ use Rattle.slate.specs.Cells.{content-lying}
 
 module _ {V : Type 0} where
   -- both have the same equations
-  pub with-content : (i : ℕ) (c : Content V) (es : List (Equation V ℕ)) → T.and-content i (content-lying c) es ≡ and-content i c es
+  pub with-content : (i : ℕ) (c : Content V) (es : List (Equation V ℕ)) → T.and-content i
+      (content-lying c) es ≡ and-content i c es
   with-content i variable es = refl
   with-content i (leaf v) es = refl
   with-content i (node f xs) es = refl

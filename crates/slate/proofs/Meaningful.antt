@@ -26,7 +26,8 @@ use Rattle.slate.proofs.Answering.{as-used}
 use Rattle.slate.proofs.Questions.{sound-of}
 
 module _ {V : Type 0} (P : ℕ → Type 0) where
-  named-content : (i : ℕ) (d : Content V) (es : List (Equation V ℕ)) → P i → ((f : ℕ) (xs : List ℕ) → d ≡ node f xs → All P xs) →
+  named-content : (i : ℕ) (d : Content V) (es : List (Equation V ℕ)) → P i → ((f : ℕ) (xs : List ℕ) → d ≡ node f xs →
+      All P xs) →
       All (Names P) es → All (Names P) (and-content i d es)
   named-content i variable es p h a = a
   named-content i (leaf v) es p h a = (p, a)

@@ -20,7 +20,8 @@ use Rattle.unify.proofs.OneProof.{solved-prop}
 use Rattle.unify.proofs.Written.{writing}
 
 -- a list that is written back whole
-pub refill : {X : Type 0} (n : ℕ) (xs ws : List X) → n ≡ length xs → length ws ≡ length xs → take n (ws ++ drop (length ws) xs) ≡ ws
+pub refill : {X : Type 0} (n : ℕ) (xs ws : List X) → n ≡ length xs → length ws ≡ length xs → take n
+    (ws ++ drop (length ws) xs) ≡ ws
 refill n xs ws e h = take-at ws (drop (length ws) xs) n (h ∙ sym e)
 
 module _ {L : Type 0} where
@@ -55,15 +56,18 @@ module _ {L : Type 0} where
     pub next-sound : n < 2048 → WellFormed (take n xs) → Counted c → Writable (cells-of (take n xs)) (content-of c) →
         WellFormed (take (n + 1) (set xs n (fresh c)))
     next-sound few s k w = record {
-      solved = subst Solved (sym next-cells) (writing L .one-more (cells-of (take n xs)) (s .solved) small (content-of c) w .solved);
-      counted = subst AllCounted (sym (take-more-set xs n (fresh c) h)) (all-push (λ d. Counted (d .content)) (take n xs) (fresh c) (s .counted) k);
+      solved = subst Solved (sym next-cells) (writing L .one-more (cells-of (take n xs)) (s .solved) small
+          (content-of c) w .solved);
+      counted = subst AllCounted (sym (take-more-set xs n (fresh c) h)) (all-push (λ d. Counted (d .content))
+          (take n xs) (fresh c) (s .counted) k);
     }
       where
         small : length (cells-of (take n xs)) < 2048
         small = omega (arith, length-map (take n xs) cell-of, length-take n xs)
 
   -- the supplied cells after a write into one
-  pub after-put : (len n : ℕ) (xs ys ws : List (Cell L)) (c : Content L) → len ≡ length xs → ys ≡ xs → ws ≡ set ys n (fresh c) →
+  pub after-put : (len n : ℕ) (xs ys ws : List (Cell L)) (c : Content L) → len ≡ length xs → ys ≡ xs → ws ≡ set ys n
+      (fresh c) →
       take len (ws ++ drop (length ws) xs) ≡ set xs n (fresh c)
   after-put len n xs ys ws c e p q =
       let r : ws ≡ set xs n (fresh c) = q ∙ ap (λ l. set l n (fresh c)) p in

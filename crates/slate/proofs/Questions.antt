@@ -45,7 +45,12 @@ module _ {L : Type 0} where
       pub reads : (c : Cell L) → c ≡ getD (vec-items (s .cells)) i c → Reads s i (Ok c)
       reads c e = (
         nth-read (s .used) (vec-items (s .cells)) i c h part-of e,
-        counted-read (take (s .used) (vec-items (s .cells))) i c (omega (arith, length-take (s .used) (vec-items (s .cells)), part-of))
+        counted-read (take (s .used) (vec-items (s .cells))) i c (omega (
+          arith,
+          length-take (s .used)
+              (vec-items (s .cells)),
+          part-of,
+        ))
             (e ∙ sym (getD-take (s .used) (vec-items (s .cells)) i c h)) (sound-of .counted),
       )
 
@@ -53,5 +58,19 @@ module _ {L : Type 0} where
       leads r e k = (h, k, e, ap (joined-at (in-use s)) e ∙ root-ends (in-use s) (sound-of .solved .descends) i)
 
       pub tells : (b : Bool) → TellsNode (content-at (in-use s) (root (in-use s) i)) b → TellsAtom s i (Ok b)
-      tells true t = (h, λ k st. inl (meaning L .atoms (in-use s) (k .equations) (sound-of .solved) (means-known (in-use s) k st) i .0 t, refl))
-      tells false t = (h, λ k st. inr ((λ a. t (meaning L .atoms (in-use s) (k .equations) (sound-of .solved) (means-known (in-use s) k st) i .1 a)), refl))
+      tells true t = (
+        h,
+        λ k st. inl (
+          meaning L .atoms (in-use s) (k .equations) (sound-of .solved)
+              (means-known (in-use s) k st) i .0 t,
+          refl,
+        ),
+      )
+      tells false t = (
+        h,
+        λ k st. inr (
+          (λ a. t (meaning L .atoms (in-use s) (k .equations) (sound-of .solved)
+              (means-known (in-use s) k st) i .1 a)),
+          refl,
+        ),
+      )

@@ -12,7 +12,8 @@ meet-arguments-requires g c κs = record {
 
 pub returns-in-None : need.returns-in-None
 returns-in-None g c = record {
-  is = λ place. not-paying (g .L·Leaf .alike) (c .args .open-joins) (state (c .args .cells .now) (c .args .trail .now) (c .args .used .now) place) (c .args .i) (c .in-None .ensures tt);
+  is = λ place. not-paying (g .L·Leaf .alike) (c .args .open-joins) (state (c .args .cells .now) (c .args .trail .now)
+      (c .args .used .now) place) (c .args .i) (c .in-None .ensures tt);
   ready = c .pre .ready;
   as-many = refl;
   as-long = refl;
@@ -21,7 +22,8 @@ returns-in-None g c = record {
 pub returns-in-Some : need.returns-in-Some
 returns-in-Some g c = record {
   is = λ place. c .meet-arguments .ensures .is place
-      ∙ paying (g .L·Leaf .alike) (c .args .open-joins) (state (c .args .cells .now) (c .args .trail .now) (c .args .used .now) place) (c .args .i) (c .in-Some .j) (c .in-Some .ensures tt);
+      ∙ paying (g .L·Leaf .alike) (c .args .open-joins) (state (c .args .cells .now) (c .args .trail .now)
+      (c .args .used .now) place) (c .args .i) (c .in-Some .j) (c .in-Some .ensures tt);
   ready = c .meet-arguments .ensures .ready;
   as-many = c .meet-arguments .ensures .as-many;
   as-long = c .meet-arguments .ensures .as-long;

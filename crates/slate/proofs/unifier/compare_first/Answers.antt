@@ -8,7 +8,8 @@ use Rattle.slate.proofs.unifier.compare_first.Needs as need
 pub returns : need.returns
 returns g c =
     let xs = c .args .cells .now in
-    let e : take (c .args .used) (c .compare .last .cells ++ drop (c .args .used) xs) ≡ c .compare .last .cells = front (c .args .used) xs (c .compare .last .cells) (c .pre .part) (c .compare .kept .cells) in
+    let e : take (c .args .used) (c .compare .last .cells ++ drop (c .args .used) xs) ≡ c .compare .last .cells =
+    front (c .args .used) xs (c .compare .last .cells) (c .pre .part) (c .compare .kept .cells) in
     record {
       told = c .compare .ensures .told;
       left = ap cells-of e ∙ c .compare .ensures .left;

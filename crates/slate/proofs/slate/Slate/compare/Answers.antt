@@ -23,8 +23,10 @@ returns-in-Break-all-in-use g c =
     let h = c .in-Break-all-in-use .ensures tt in
     let e : c .from-residual .result ≡ Err (NotInUse (h .0)) = cc (p .1, p .2, h .1) in
     record {
-      kept = subst (λ r. Kept (c .args .self .now) (c .args .self .now) (compare (c .args .left) (c .args .right) (length (c .args .work .now))) (same-or r)) (sym e)
-          (compare-not-in-use (c .args .self .now) (c .args .left) (c .args .right) (length (c .args .work .now)) (h .0) (h .2));
+      kept = subst (λ r. Kept (c .args .self .now) (c .args .self .now) (compare (c .args .left) (c .args .right)
+          (length (c .args .work .now))) (same-or r)) (sym e)
+          (compare-not-in-use (c .args .self .now) (c .args .left) (c .args .right) (length (c .args .work .now))
+          (h .0) (h .2));
       unaltered = refl;
     }
 
@@ -34,8 +36,10 @@ returns-in-Break-long-enough g c =
     let h = c .in-Break-long-enough .ensures tt in
     let e : c .from-residual-in-Break-long-enough .result ≡ Err TooShort = cc (p .1, p .2, h .0) in
     record {
-      kept = subst (λ r. Kept (c .args .self .now) (c .args .self .now) (compare (c .args .left) (c .args .right) (length (c .args .work .now))) (same-or r)) (sym e)
-          (compare-too-short (c .args .self .now) (c .args .left) (c .args .right) (length (c .args .work .now)) (c .in-Continue-all-in-use .ensures tt)
+      kept = subst (λ r. Kept (c .args .self .now) (c .args .self .now) (compare (c .args .left) (c .args .right)
+          (length (c .args .work .now))) (same-or r)) (sym e)
+          (compare-too-short (c .args .self .now) (c .args .left) (c .args .right) (length (c .args .work .now))
+          (c .in-Continue-all-in-use .ensures tt)
           (subst (λ n. length (c .args .work .now) < 9 * capacity n) (c .len .ensures) (h .1)));
       unaltered = refl;
     }
@@ -45,9 +49,12 @@ compare-first-equal-requires g c κs =
     let s = c .args .self .now in
     record {
       part = omega (arith, s .within, c .as-mut-slice .ensures .len);
-      given = subst (λ l. Given (take (s .used) l) (c .args .work .now) (c .args .left) (c .args .right)) (sym (c .as-mut-slice .ensures .value))
-          (given (coded-set (g .L .coded)) s (c .args .work .now) (c .args .left) (c .args .right) (c .in-Continue-all-in-use .ensures tt)
-          (subst (λ n. 9 * capacity n ≤ length (c .args .work .now)) (c .len .ensures) (c .in-Continue-long-enough .ensures tt)));
+      given = subst (λ l. Given (take (s .used) l) (c .args .work .now) (c .args .left) (c .args .right))
+          (sym (c .as-mut-slice .ensures .value))
+          (given (coded-set (g .L .coded)) s (c .args .work .now) (c .args .left) (c .args .right)
+          (c .in-Continue-all-in-use .ensures tt)
+          (subst (λ n. 9 * capacity n ≤ length (c .args .work .now)) (c .len .ensures)
+          (c .in-Continue-long-enough .ensures tt)));
     }
 
 pub ghost-self : need.ghost-self
@@ -59,7 +66,8 @@ ghost-self g c =
         s .few,
         (
           ∣ subst (λ l. WellFormed (take (s .used) l))
-              (sym (refill (vec-len (s .cells)) (vec-items (s .cells)) ws (s .cells .ok .0) (c .compare-first-equal .ensures .as-many ∙ ap length (c .as-mut-slice .ensures .value))))
+              (sym (refill (vec-len (s .cells)) (vec-items (s .cells)) ws (s .cells .ok .0)
+              (c .compare-first-equal .ensures .as-many ∙ ap length (c .as-mut-slice .ensures .value))))
               (c .compare-first-equal .ensures .sound) ∣₁,
           tt,
         ),
@@ -70,14 +78,21 @@ pub returns : need.returns
 returns g c =
     let s = c .args .self .now in
     let ws = c .compare-first-equal .last .cells in
-    let left : cells-of (take (s .used) (take (vec-len (s .cells)) (ws ++ drop (length ws) (vec-items (s .cells))))) ≡ cells-of (take (s .used) (vec-items (s .cells))) =
-    ap (λ l. cells-of (take (s .used) l)) (refill (vec-len (s .cells)) (vec-items (s .cells)) ws (s .cells .ok .0) (c .compare-first-equal .ensures .as-many ∙ ap length (c .as-mut-slice .ensures .value)))
-    ∙ (c .compare-first-equal .ensures .left ∙ ap (λ l. cells-of (take (s .used) l)) (c .as-mut-slice .ensures .value)) in
+    let left : cells-of (take (s .used) (take (vec-len (s .cells)) (ws ++ drop (length ws) (vec-items (s .cells))))) ≡
+    cells-of (take (s .used) (vec-items (s .cells))) =
+    ap (λ l. cells-of (take (s .used) l)) (refill (vec-len (s .cells)) (vec-items (s .cells)) ws (s .cells .ok .0)
+    (c .compare-first-equal .ensures .as-many ∙ ap length (c .as-mut-slice .ensures .value)))
+    ∙ (c .compare-first-equal .ensures .left ∙ ap (λ l. cells-of (take (s .used) l))
+    (c .as-mut-slice .ensures .value)) in
     record {
-      kept = compare-kept s _ (c .args .left) (c .args .right) (length (c .args .work .now)) (c .in-Continue-all-in-use .ensures tt)
-          (subst (λ n. 9 * capacity n ≤ length (c .args .work .now)) (c .len .ensures) (c .in-Continue-long-enough .ensures tt)) refl
+      kept = compare-kept s _ (c .args .left) (c .args .right) (length (c .args .work .now))
+          (c .in-Continue-all-in-use .ensures tt)
+          (subst (λ n. 9 * capacity n ≤ length (c .args .work .now)) (c .len .ensures)
+          (c .in-Continue-long-enough .ensures tt)) refl
           (c .compare-first-equal .result)
-          (subst (λ l. Told (cells-of (take (s .used) l)) (c .args .left) (c .args .right) (c .compare-first-equal .result)) (c .as-mut-slice .ensures .value) (c .compare-first-equal .ensures .told))
+          (subst (λ l. Told (cells-of (take (s .used) l)) (c .args .left) (c .args .right)
+          (c .compare-first-equal .result)) (c .as-mut-slice .ensures .value)
+          (c .compare-first-equal .ensures .told))
           left;
       unaltered = left;
     }

@@ -12,8 +12,10 @@ pub node-at-root-atom-requires : need.node-at-root-atom-requires
 node-at-root-atom-requires g c κs =
     let s = c .args .self .now in
     record {
-      part = subst (λ l. s .used ≤ length l) (sym (c .as-slice .ensures .value)) (part-of (coded-set (g .L .coded)) s);
-      sound = subst (λ l. WellFormed (take (s .used) l)) (sym (c .as-slice .ensures .value)) (sound-of (coded-set (g .L .coded)) s);
+      part = subst (λ l. s .used ≤ length l) (sym (c .as-slice .ensures .value))
+          (part-of (coded-set (g .L .coded)) s);
+      sound = subst (λ l. WellFormed (take (s .used) l)) (sym (c .as-slice .ensures .value))
+          (sound-of (coded-set (g .L .coded)) s);
       inside = c .if-self-cell .left;
     }
 
@@ -22,7 +24,8 @@ returns g c =
     let s = c .args .self .now in
     record {
       tells = tells (coded-set (g .L .coded)) s (c .args .cell) (c .if-self-cell .left) (c .node-at-root-atom .result)
-          (subst (λ l. TellsNode (content-at (cells-of (take (s .used) l)) (root (cells-of (take (s .used) l)) (c .args .cell))) (c .node-at-root-atom .result))
+          (subst (λ l. TellsNode (content-at (cells-of (take (s .used) l)) (root (cells-of (take (s .used) l))
+          (c .args .cell))) (c .node-at-root-atom .result))
           (c .as-slice .ensures .value) (c .node-at-root-atom .ensures));
       unchanged = refl;
     }
