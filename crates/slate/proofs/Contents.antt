@@ -1,5 +1,5 @@
 -- What was written into a cell, as the unifier has it and as a sitting has it.
-use mathlib.Core.Path.{_≡_, refl, sym, _∙_, ap}
+use mathlib.Core.Path.{_≡_, refl}
 use mathlib.Core.List.{List}
 use Prim.Native.Nat.{ℕ}
 use Rattle.theory.specs.Equations.{Equation}
@@ -10,7 +10,8 @@ use Rattle.slate.specs.Cells.{content-lying}
 
 module _ {V : Type 0} where
   -- both have the same equations
-  pub with-content : (i : ℕ) (c : Content V) (es : List (Equation V ℕ)) → T.and-content i (content-lying c) es ≡ and-content i c es
+  pub with-content : (i : ℕ) (c : Content V) (es : List (Equation V ℕ)) → T.and-content i
+      (content-lying c) es ≡ and-content i c es
   with-content i variable es = refl
   with-content i (leaf v) es = refl
   with-content i (node f xs) es = refl

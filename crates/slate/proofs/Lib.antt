@@ -9,3 +9,4 @@ pub mod Unused
 pub mod Next
 pub mod Answering
 pub mod Questions
+pub mod Meaningful

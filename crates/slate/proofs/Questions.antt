@@ -1,8 +1,8 @@
 -- What is read from a slate.
-use mathlib.Core.Path.{_≡_, refl, sym, _∙_, ap, subst}
+use mathlib.Core.Path.{_≡_, refl, sym, _∙_, ap}
 use mathlib.Core.Bool.{Bool, true, false}
 use mathlib.Core.List.{List, [], _∷_}
-use mathlib.Core.Logic.{_⊎_, inl, inr}
+use mathlib.Core.Logic.{inl, inr}
 use Prim.Native.Nat.{ℕ, zero, suc, _<_, _≤_}
 use native.Mathlib.Nat.{not-suc-le-zero, le-of-suc-le-suc}
 use native.Mathlib.Omega.{arith}
@@ -10,20 +10,16 @@ use lib.ListN.{length, take, getD, length-take}
 use Rattle.std.specs.Of.Vec.{vec-items}
 use Rattle.std.specs.Finite.{nth}
 use Rattle.std.proofs.shelf.Lists.{getD-take}
-use Rattle.std.specs.declared.option.Option.the-variants.{Some, None}
+use Rattle.std.specs.declared.option.Option.the-variants.{Some}
 use Rattle.std.specs.declared.result.Result.the-variants.{Ok}
-use Rattle.theory.specs.Equations.{IsAtom}
-use Rattle.theory.specs.Check.{If}
-use Rattle.theory.specs.Known.{Known}
-use Rattle.theory.specs.Carried.{StandsFor}
 use Rattle.unify.specs.Cells.{root, joined-at, content-at}
 use Rattle.unify.proofs.Roots.{root-ends}
 use Rattle.unify.proofs.Meant.{meaning}
 use Rattle.slate.specs.declared.cell.Cell.{Cell}
 use Rattle.slate.specs.declared.slate.Slate.{Slate}
-use Rattle.slate.specs.Cells.{cell-of, cells-of, Sound}
+use Rattle.slate.specs.Cells.{cell-of, cells-of, WellFormed}
 use Rattle.slate.specs.Loops.{TellsNode}
-use Rattle.slate.specs.Slates.{in-use, on-slate, Reads, Leads, TellsAtom}
+use Rattle.slate.specs.Slates.{in-use, Reads, Leads, TellsAtom}
 use Rattle.slate.proofs.Read.{counted-read}
 use Rattle.slate.proofs.Next.{sound-out}
 use Rattle.slate.proofs.Standing.{means-known}
@@ -38,7 +34,7 @@ module _ {L : Type 0} where
 
   module _ (set : IsSet L) (s : Slate L) where
     -- the cells in use are sound
-    pub sound-of : Sound (take (s .used) (vec-items (s .cells)))
+    pub sound-of : WellFormed (take (s .used) (vec-items (s .cells)))
     sound-of = sound-out set (take (s .used) (vec-items (s .cells))) (s .sound)
 
     -- as many were supplied
@@ -49,13 +45,32 @@ module _ {L : Type 0} where
       pub reads : (c : Cell L) → c ≡ getD (vec-items (s .cells)) i c → Reads s i (Ok c)
       reads c e = (
         nth-read (s .used) (vec-items (s .cells)) i c h part-of e,
-        counted-read (take (s .used) (vec-items (s .cells))) i c (omega (arith, length-take (s .used) (vec-items (s .cells)), part-of))
-            (e ∙ sym (getD-take (s .used) (vec-items (s .cells)) i c h)) (sound-of .counted)
+        counted-read (take (s .used) (vec-items (s .cells))) i c (omega (
+          arith,
+          length-take (s .used)
+              (vec-items (s .cells)),
+          part-of,
+        ))
+            (e ∙ sym (getD-take (s .used) (vec-items (s .cells)) i c h)) (sound-of .counted),
       )
 
       pub leads : (r : ℕ) → r ≡ root (in-use s) i → r < s .used → Leads s i (Ok r)
       leads r e k = (h, k, e, ap (joined-at (in-use s)) e ∙ root-ends (in-use s) (sound-of .solved .descends) i)
 
       pub tells : (b : Bool) → TellsNode (content-at (in-use s) (root (in-use s) i)) b → TellsAtom s i (Ok b)
-      tells true t = (h, λ k st. inl (meaning L .atoms (in-use s) (k .equations) (sound-of .solved) (means-known (in-use s) k st) i .0 t, refl))
-      tells false t = (h, λ k st. inr ((λ a. t (meaning L .atoms (in-use s) (k .equations) (sound-of .solved) (means-known (in-use s) k st) i .1 a)), refl))
+      tells true t = (
+        h,
+        λ k st. inl (
+          meaning L .atoms (in-use s) (k .equations) (sound-of .solved)
+              (means-known (in-use s) k st) i .0 t,
+          refl,
+        ),
+      )
+      tells false t = (
+        h,
+        λ k st. inr (
+          (λ a. t (meaning L .atoms (in-use s) (k .equations) (sound-of .solved)
+              (means-known (in-use s) k st) i .1 a)),
+          refl,
+        ),
+      )

@@ -9,7 +9,7 @@ use Rattle.std.specs.declared.option.Option.{Option}
 use Rattle.std.specs.declared.option.Option.the-variants.{Some, None}
 use Rattle.theory.specs.Equations.{Equation, MeetsAll}
 use Rattle.theory.specs.Known.{Known}
-use Rattle.theory.specs.Carried.{Content, blank, leaf, node, Cell, states, StandsFor}
+use Rattle.theory.specs.Carried.{Content, node, Cell, states, StandsFor}
 use Rattle.theory.specs.Carried as T
 use Rattle.unify.specs.Cells.{content-at}
 use Rattle.unify.specs.Cells as C
@@ -53,7 +53,8 @@ module _ {V : Type 0} where
       c .content ≡ node f xs → content-at cs i ≡ C.node f xs
   unfolding content-at
   was-written [] i f xs c e p = absurd (none-some e)
-  was-written (d ∷ cs) zero f xs c e p = back-again (d .content) f xs (let q : lying d ≡ c = cc in ap (λ x. x .content) q ∙ p)
+  was-written (d ∷ cs) zero f xs c e p = back-again (d .content) f xs (let q : lying d ≡ c = cc in ap
+      (λ x. x .content) q ∙ p)
   was-written (d ∷ cs) (suc i) f xs c e p = was-written cs i f xs c e p
 
   module _ (cs : List (C.Cell V)) (k : Known V) where
@@ -75,9 +76,17 @@ module _ {V : Type 0} where
 
   -- one more cell, and what was written into it
   pub stands-written : (cs : List (C.Cell V)) (k : Known V) (c : C.Content V) → StandsFor (map lying cs) k →
-      StandsFor (map lying (write cs c)) (record { used = suc (k .used); equations = k .equations ++ and-content (k .used) c [] })
+      StandsFor (map lying (write cs c)) (record {
+        used = suc (k .used);
+        equations = k .equations ++ and-content
+            (k .used) c [];
+      })
   stands-written cs k c s =
-      stands-for (write cs c) (record { used = suc (k .used); equations = k .equations ++ and-content (k .used) c [] })
+      stands-for (write cs c) (record {
+        used = suc (k .used);
+        equations = k .equations ++ and-content
+            (k .used) c [];
+      })
       (length-write cs c ∙ ap suc (number-known cs k s))
       (subst (λ n. Means (write cs c) (k .equations ++ and-content n c [])) (number-known cs k s)
       (meaning V .written cs (k .equations) (means-known cs k s) c))

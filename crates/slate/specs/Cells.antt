@@ -40,7 +40,7 @@ abbrev pub AllCounted : {L : Type 0} → List (Cell L) → Type 0
 AllCounted cells = All (λ c. Counted (c .content)) cells
 
 -- cells in solved form, of which no node counts more arguments than it has places
-pub record Sound {L : Type 0} (cells : List (Cell L)) : Type 0 where
+pub record WellFormed {L : Type 0} (cells : List (Cell L)) : Type 0 where
   pub solved : Solved (cells-of cells)
   pub counted : AllCounted cells
 

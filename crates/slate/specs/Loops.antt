@@ -12,7 +12,7 @@ use Rattle.unify.specs.Solved.{Solved}
 use Rattle.unify.specs.Theorems.{IsNode}
 use Rattle.unify.specs.Meaning.{Means}
 use Rattle.slate.specs.declared.cell.Cell.{Cell}
-use Rattle.slate.specs.Cells.{cells-of, AllCounted, Sound}
+use Rattle.slate.specs.Cells.{cells-of, AllCounted, WellFormed}
 
 -- the unifier's state, with the first part of a list as its trail
 abbrev pub state : {L : Type 0} → List (Cell L) → List ℕ → ℕ → ℕ → State L
@@ -32,7 +32,7 @@ pub record Ready {L : Type 0} (cells : List (Cell L)) (work : List ℕ) (n : ℕ
 
 -- what is asked of two cells that are to be joined or compared: solved cells, and a list with room for the trail
 pub record Given {L : Type 0} (cells : List (Cell L)) (work : List ℕ) (a b : ℕ) : Type 0 where
-  pub sound : Sound cells
+  pub sound : WellFormed cells
   pub list : length cells ≤ length work
   pub first : a < length cells
   pub second : b < length cells

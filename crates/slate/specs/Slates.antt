@@ -14,7 +14,7 @@ use Rattle.theory.specs.Entries.{Entry}
 use Rattle.theory.specs.Check.{If}
 use Rattle.theory.specs.Calls.{Call, Answer, wrote, accepted, same, different, grants, fails, passes, refused}
 use Rattle.theory.specs.Answers.{capacity, first-unused}
-use Rattle.theory.specs.Known.{Known, nothing}
+use Rattle.theory.specs.Known.{Known, nothing, Sound}
 use Rattle.theory.specs.Carried.{StandsFor, RightCall}
 use Rattle.theory.specs.Carried as T
 use Rattle.unify.specs.Cells as C
@@ -110,3 +110,7 @@ abbrev pub TellsAtom : {L : Type 0} → Slate L → ℕ → Result Bool Refusal 
 TellsAtom {L} s i (Ok b) = (i < s .used) ×
     ((k : Known L) → StandsFor (on-slate s) k → If (IsAtom (k .equations) i) (b ≡ true) (b ≡ false))
 TellsAtom s i (Err e) = (e ≡ NotInUse i) × (s .used ≤ i)
+
+-- every slate stands for something, so that the promise of a call is never empty
+abbrev pub Slates-stand-for-something : Type 0 → Type 0
+Slates-stand-for-something L = (s : Slate L) → (k : Known L) × Sound k × StandsFor (on-slate s) k

@@ -5,7 +5,7 @@ ghost use lib.ListN.{length, take};
 ghost use Rattle.unify.specs.Cells.{joined-at, content-at};
 ghost use Rattle.unify.specs.Cells.{root as root-of, rank as rank-at};
 ghost use Rattle.unify.specs.Solved.{Descends};
-ghost use Rattle.slate.specs.Cells.{cells-of, content-of, Counted, AllCounted, Sound};
+ghost use Rattle.slate.specs.Cells.{cells-of, content-of, Counted, AllCounted, WellFormed};
 ghost use Rattle.slate.specs.Loops.{TellsNode};
 use crate::cell::Cell;
 use crate::cell::Content;
@@ -63,7 +63,7 @@ pub fn rank<L: Leaf>(cells: &[Cell<L>], i: u16) -> u16
 // The root of one of the first so many cells.
 pub fn root_first<L: Leaf>(cells: &[Cell<L>], used: usize, i: u16) -> u16
     requires part { ⌜ used ≤ length (now cells) ⌝ }
-    requires sound { ⌜ Sound (take used (now cells)) ⌝ }
+    requires sound { ⌜ WellFormed (take used (now cells)) ⌝ }
     requires inside { ⌜ i < used ⌝ }
     ensures is { λ r. ⌜ r ≡ root-of (cells-of (take used (now (cells .entry)))) i ⌝ }
     ensures inside { λ r. ⌜ r < used ⌝ }
@@ -74,9 +74,10 @@ pub fn root_first<L: Leaf>(cells: &[Cell<L>], used: usize, i: u16) -> u16
 // Says whether a node stands at the root of one of the first so many cells.
 pub fn node_at_root<L: Leaf>(cells: &[Cell<L>], used: usize, i: u16) -> bool
     requires part { ⌜ used ≤ length (now cells) ⌝ }
-    requires sound { ⌜ Sound (take used (now cells)) ⌝ }
+    requires sound { ⌜ WellFormed (take used (now cells)) ⌝ }
     requires inside { ⌜ i < used ⌝ }
-    ensures { λ r. ⌜ TellsNode (content-at (cells-of (take used (now (cells .entry)))) (root-of (cells-of (take used (now (cells .entry)))) i)) r ⌝ }
+    ensures { λ r. ⌜ TellsNode (content-at (cells-of (take used (now (cells .entry))))
+        (root-of (cells-of (take used (now (cells .entry)))) i)) r ⌝ }
 {
     let r = root_first(cells, used, i);
     match written(&cells[..used], r) {

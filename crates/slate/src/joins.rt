@@ -3,10 +3,10 @@ ghost use mathlib.Core.Path.{_≡_};
 ghost use Prim.Native.Nat.{ℕ, _+_, _<_};
 ghost use lib.ListN.{length};
 ghost use Rattle.std.specs.declared.option.Option.the-variants.{Some};
-ghost use Rattle.unify.specs.Cells.{rejoin};
+ghost use Rattle.unify.specs.Cells.{content-at, rejoin};
 ghost use Rattle.unify.specs.Unify.{fits as fitting};
 ghost use Rattle.unify.specs.Unify.{meet as meeting, link as linking};
-ghost use Rattle.unify.specs.Unify.{meet-all as meeting-all, pay as paying, rest, join as joining};
+ghost use Rattle.unify.specs.Unify.{meet-all as meeting-all, pay as paying, meet-arguments as meeting-arguments, rest, join as joining};
 ghost use Rattle.std.specs.Finite.{All};
 ghost use Rattle.slate.specs.Cells.{cells-of, content-of, Counted, AllCounted};
 ghost use Rattle.slate.specs.Loops.{Ready, state};
@@ -23,7 +23,8 @@ use leaf::kind::Leaf;
 fn fit<L: Leaf>(open_joins: bool, c: &Content<L>, d: &Content<L>) -> bool
     requires first { ⌜ Counted (now c) ⌝ }
     requires second { ⌜ Counted (now d) ⌝ }
-    ensures { λ r. ⌜ r ≡ fitting (L·Leaf .alike) «open_joins» (content-of (now (c .entry))) (content-of (now (d .entry))) ⌝ }
+    ensures { λ r. ⌜ r ≡ fitting (L·Leaf .alike) «open_joins»
+        (content-of (now (c .entry))) (content-of (now (d .entry))) ⌝ }
 {
     match c {
         Content::Open => open_joins,
@@ -74,7 +75,9 @@ fn link_down<L: Leaf>(
     requires inside { ⌜ high < length (now cells) ⌝ }
     requires counted { ⌜ AllCounted (now cells) ⌝ }
     requires room { ⌜ now used < length (now trail) ⌝ }
-    ensures is { λ _. ⌜ ((place : ℕ) → state (now (cells .exit)) (now (trail .exit)) (now (used .exit)) place ≡ linking (state (now (cells .entry)) (now (trail .entry)) (now (used .entry)) place) high low) ⌝ }
+    ensures is { λ _. ⌜ ((place : ℕ) →
+        state (now (cells .exit)) (now (trail .exit)) (now (used .exit)) place ≡
+        linking (state (now (cells .entry)) (now (trail .entry)) (now (used .entry)) place) high low) ⌝ }
     ensures counted { λ _. ⌜ AllCounted (now (cells .exit)) ⌝ }
     ensures one_more { λ _. ⌜ now (used .exit) ≡ now (used .entry) + 1 ⌝ }
     ensures as_many { λ _. ⌜ length (now (cells .exit)) ≡ length (now (cells .entry)) ⌝ }
@@ -97,7 +100,9 @@ fn meet<L: Leaf>(
     requires ready { ⌜ Ready (now cells) (now trail) (now used) ⌝ }
     requires first { ⌜ x < length (now cells) ⌝ }
     requires second { ⌜ y < length (now cells) ⌝ }
-    ensures { λ r. ⌜ Stepped (λ s. meeting (L·Leaf .alike) «open_joins» s x y) (now (cells .entry)) (now (trail .entry)) (now (used .entry)) r (now (cells .exit)) (now (trail .exit)) (now (used .exit)) ⌝ }
+    ensures { λ r. ⌜ Stepped (λ s. meeting (L·Leaf .alike) «open_joins» s x y)
+        (now (cells .entry)) (now (trail .entry)) (now (used .entry))
+        r (now (cells .exit)) (now (trail .exit)) (now (used .exit)) ⌝ }
 {
     let r = root(cells, x);
     let t = root(cells, y);
@@ -131,7 +136,9 @@ fn meet_all<L: Leaf>(
     requires ready { ⌜ Ready (now cells) (now trail) (now used) ⌝ }
     requires first { ⌜ All (λ x. x < length (now cells)) (now xs) ⌝ }
     requires second { ⌜ All (λ y. y < length (now cells)) (now ys) ⌝ }
-    ensures { λ r. ⌜ Stepped (λ s. meeting-all (L·Leaf .alike) «open_joins» s (now (xs .entry)) (now (ys .entry))) (now (cells .entry)) (now (trail .entry)) (now (used .entry)) r (now (cells .exit)) (now (trail .exit)) (now (used .exit)) ⌝ }
+    ensures { λ r. ⌜ Stepped (λ s. meeting-all (L·Leaf .alike) «open_joins» s (now (xs .entry)) (now (ys .entry)))
+        (now (cells .entry)) (now (trail .entry)) (now (used .entry))
+        r (now (cells .exit)) (now (trail .exit)) (now (used .exit)) ⌝ }
 {
     let both = xs.len().min(ys.len());
     for k in 0..both {
@@ -140,6 +147,45 @@ fn meet_all<L: Leaf>(
         }
     }
     true
+}
+
+// Makes the arguments of two nodes meet; what is no node has none.
+fn meet_arguments<L: Leaf>(
+    cells: &mut [Cell<L>],
+    trail: &mut [u16],
+    used: &mut usize,
+    open_joins: bool,
+    i: u16,
+    j: u16,
+) -> bool
+    requires ready { ⌜ Ready (now cells) (now trail) (now used) ⌝ }
+    requires first { ⌜ i < length (now cells) ⌝ }
+    requires second { ⌜ j < length (now cells) ⌝ }
+    ensures { λ r. ⌜ Stepped (λ s. meeting-arguments (L·Leaf .alike) «open_joins» s
+        (content-at (s .cells) i) (content-at (s .cells) j))
+        (now (cells .entry)) (now (trail .entry)) (now (used .entry))
+        r (now (cells .exit)) (now (trail .exit)) (now (used .exit)) ⌝ }
+{
+    let c = written(cells, i);
+    let d = written(cells, j);
+    let Content::Node {
+        arguments: xs,
+        count: m,
+        ..
+    } = c
+    else {
+        return true;
+    };
+    let Content::Node {
+        arguments: ys,
+        count: n,
+        ..
+    } = d
+    else {
+        return true;
+    };
+    let (left, right) = (&xs[..m as usize], &ys[..n as usize]);
+    meet_all(cells, trail, used, open_joins, left, right)
 }
 
 // Pays what a joined cell owes: that its arguments meet those of its target.
@@ -152,40 +198,13 @@ fn pay<L: Leaf>(
 ) -> bool
     requires ready { ⌜ Ready (now cells) (now trail) (now used) ⌝ }
     requires inside { ⌜ i < length (now cells) ⌝ }
-    ensures { λ r. ⌜ Stepped (λ s. paying (L·Leaf .alike) «open_joins» s i) (now (cells .entry)) (now (trail .entry)) (now (used .entry)) r (now (cells .exit)) (now (trail .exit)) (now (used .exit)) ⌝ }
+    ensures { λ r. ⌜ Stepped (λ s. paying (L·Leaf .alike) «open_joins» s i)
+        (now (cells .entry)) (now (trail .entry)) (now (used .entry))
+        r (now (cells .exit)) (now (trail .exit)) (now (used .exit)) ⌝ }
 {
     match link(cells, i) {
         None => true,
-        Some(j) => {
-            let c = written(cells, i);
-            let d = written(cells, j);
-            match c {
-                Content::Open => true,
-                Content::Leaf(_) => true,
-                Content::Node {
-                    arguments: xs,
-                    count: m,
-                    ..
-                } => match d {
-                    Content::Open => true,
-                    Content::Leaf(_) => true,
-                    Content::Node {
-                        arguments: ys,
-                        count: n,
-                        ..
-                    } => {
-                        meet_all(
-                            cells,
-                            trail,
-                            used,
-                            open_joins,
-                            &xs[..m as usize],
-                            &ys[..n as usize],
-                        )
-                    }
-                },
-            }
-        }
+        Some(j) => meet_arguments(cells, trail, used, open_joins, i, j),
     }
 }
 
@@ -197,7 +216,9 @@ fn settle<L: Leaf>(
     open_joins: bool,
 ) -> bool
     requires ready { ⌜ Ready (now cells) (now trail) (now used) ⌝ }
-    ensures { λ r. ⌜ Came (rest (L·Leaf .alike) «open_joins» (state (now (cells .entry)) (now (trail .entry)) (now (used .entry)) 0)) (now (cells .entry)) (now (trail .entry)) r (now (cells .exit)) (now (trail .exit)) (now (used .exit)) ⌝ }
+    ensures { λ r. ⌜ Came (rest (L·Leaf .alike) «open_joins» (state (now (cells .entry)) (now (trail .entry)) (now (used .entry)) 0))
+        (now (cells .entry)) (now (trail .entry))
+        r (now (cells .exit)) (now (trail .exit)) (now (used .exit)) ⌝ }
 {
     let mut place: usize = 0;
     while place < *used {
@@ -220,7 +241,9 @@ pub fn join<L: Leaf>(
     b: u16,
 ) -> bool
     requires { ⌜ Given (now cells) (now trail) a b ⌝ }
-    ensures { λ r. ⌜ Came (joining (L·Leaf .alike) «open_joins» (cells-of (now (cells .entry))) a b) (now (cells .entry)) (now (trail .entry)) r (now (cells .exit)) (now (trail .exit)) (now (used .exit)) ⌝ }
+    ensures { λ r. ⌜ Came (joining (L·Leaf .alike) «open_joins» (cells-of (now (cells .entry))) a b)
+        (now (cells .entry)) (now (trail .entry))
+        r (now (cells .exit)) (now (trail .exit)) (now (used .exit)) ⌝ }
 {
     *used = 0;
     if !meet(cells, trail, used, open_joins, a, b) {

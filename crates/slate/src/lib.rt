@@ -4,6 +4,7 @@ mod chains;
 mod input;
 mod joins;
 pub mod limits;
+pub mod meaning;
 pub mod refusal;
 pub mod slate;
 mod undo;

@@ -6,7 +6,7 @@ pub mod writes;
 ghost use Prim.Native.Nat.{_≤_};
 ghost use lib.ListN.{take};
 ghost use Rattle.std.specs.Of.Vec.{vec-len, vec-items};
-ghost use Rattle.slate.specs.Cells.{Sound};
+ghost use Rattle.slate.specs.Cells.{WellFormed};
 use crate::cell::Cell;
 
 // The cells in use are in solved form. Cells past the first 2,048 are never in use.
@@ -16,5 +16,5 @@ pub struct Slate<L> {
     used: usize,
     ghost within: { used ≤ vec-len cells },
     ghost few: { used ≤ 2048 },
-    ghost sound: { ∥ Sound (take used (vec-items cells)) ∥₁ },
+    ghost sound: { ∥ WellFormed (take used (vec-items cells)) ∥₁ },
 }

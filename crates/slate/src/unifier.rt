@@ -2,7 +2,7 @@
 ghost use mathlib.Core.Path.{_≡_};
 ghost use Prim.Native.Nat.{_≤_};
 ghost use lib.ListN.{length, take};
-ghost use Rattle.slate.specs.Cells.{cells-of, Sound};
+ghost use Rattle.slate.specs.Cells.{cells-of, WellFormed};
 ghost use Rattle.slate.specs.Loops.{Given, Did, Told};
 use crate::cell::Cell;
 use crate::joins::join;
@@ -13,7 +13,7 @@ use leaf::kind::Leaf;
 fn unify<L: Leaf>(cells: &mut [Cell<L>], trail: &mut [u16], a: u16, b: u16) -> bool
     requires { ⌜ Given (now cells) (now trail) a b ⌝ }
     ensures did { λ r. ⌜ Did (cells-of (now (cells .entry))) (cells-of (now (cells .exit))) a b r ⌝ }
-    ensures sound { λ _. ⌜ Sound (now (cells .exit)) ⌝ }
+    ensures sound { λ _. ⌜ WellFormed (now (cells .exit)) ⌝ }
 {
     let mut used = 0;
     if join(cells, trail, &mut used, true, a, b) {
@@ -28,7 +28,7 @@ fn compare<L: Leaf>(cells: &mut [Cell<L>], trail: &mut [u16], a: u16, b: u16) ->
     requires { ⌜ Given (now cells) (now trail) a b ⌝ }
     ensures told { λ r. ⌜ Told (cells-of (now (cells .entry))) a b r ⌝ }
     ensures left { λ _. ⌜ cells-of (now (cells .exit)) ≡ cells-of (now (cells .entry)) ⌝ }
-    ensures sound { λ _. ⌜ Sound (now (cells .exit)) ⌝ }
+    ensures sound { λ _. ⌜ WellFormed (now (cells .exit)) ⌝ }
 {
     let mut used = 0;
     let equal = join(cells, trail, &mut used, false, a, b);
@@ -46,8 +46,9 @@ pub fn unify_first<L: Leaf>(
 ) -> bool
     requires part { ⌜ used ≤ length (now cells) ⌝ }
     requires given { ⌜ Given (take used (now cells)) (now trail) a b ⌝ }
-    ensures did { λ r. ⌜ Did (cells-of (take used (now (cells .entry)))) (cells-of (take used (now (cells .exit)))) a b r ⌝ }
-    ensures sound { λ _. ⌜ Sound (take used (now (cells .exit))) ⌝ }
+    ensures did { λ r. ⌜ Did (cells-of (take used (now (cells .entry))))
+        (cells-of (take used (now (cells .exit)))) a b r ⌝ }
+    ensures sound { λ _. ⌜ WellFormed (take used (now (cells .exit))) ⌝ }
     ensures as_many { λ _. ⌜ length (now (cells .exit)) ≡ length (now (cells .entry)) ⌝ }
 {
     unify(&mut cells[..used], trail, a, b)
@@ -64,8 +65,9 @@ pub fn compare_first<L: Leaf>(
     requires part { ⌜ used ≤ length (now cells) ⌝ }
     requires given { ⌜ Given (take used (now cells)) (now trail) a b ⌝ }
     ensures told { λ r. ⌜ Told (cells-of (take used (now (cells .entry)))) a b r ⌝ }
-    ensures left { λ _. ⌜ cells-of (take used (now (cells .exit))) ≡ cells-of (take used (now (cells .entry))) ⌝ }
-    ensures sound { λ _. ⌜ Sound (take used (now (cells .exit))) ⌝ }
+    ensures left { λ _. ⌜ cells-of (take used (now (cells .exit))) ≡
+        cells-of (take used (now (cells .entry))) ⌝ }
+    ensures sound { λ _. ⌜ WellFormed (take used (now (cells .exit))) ⌝ }
     ensures as_many { λ _. ⌜ length (now (cells .exit)) ≡ length (now (cells .entry)) ⌝ }
 {
     compare(&mut cells[..used], trail, a, b)

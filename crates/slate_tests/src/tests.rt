@@ -15,8 +15,11 @@ use std::alloc::Global;
 use std::test::*;
 
 const F: u16 = 5;
+
 const S: u16 = 7;
+
 const T: u16 = 8;
+
 const Z: u16 = 9;
 
 // A wiped slate on so many cells.
@@ -128,11 +131,26 @@ fn bad_input_is_refused_in_order(rt: LibcRuntime) -> Result<(), Fail> {
     let a = slate.open()?;
     let five = [9, 9, 9, 9, 9];
     check_eq(slate.node(S, &five), Err(Refusal::TooManyArguments))?;
-    check_eq(slate.node(S, &[a, a, 8, 9]), Err(Refusal::NotInUse { cell: 8 }))?;
-    check_eq(slate.equate(&mut short, 6, 5), Err(Refusal::NotInUse { cell: 6 }))?;
-    check_eq(slate.equate(&mut short, a, 5), Err(Refusal::NotInUse { cell: 5 }))?;
-    check_eq(slate.compare(&mut short, 1, a), Err(Refusal::NotInUse { cell: 1 }))?;
-    check_eq(slate.compare(&mut work, a, 1), Err(Refusal::NotInUse { cell: 1 }))?;
+    check_eq(
+        slate.node(S, &[a, a, 8, 9]),
+        Err(Refusal::NotInUse { cell: 8 }),
+    )?;
+    check_eq(
+        slate.equate(&mut short, 6, 5),
+        Err(Refusal::NotInUse { cell: 6 }),
+    )?;
+    check_eq(
+        slate.equate(&mut short, a, 5),
+        Err(Refusal::NotInUse { cell: 5 }),
+    )?;
+    check_eq(
+        slate.compare(&mut short, 1, a),
+        Err(Refusal::NotInUse { cell: 1 }),
+    )?;
+    check_eq(
+        slate.compare(&mut work, a, 1),
+        Err(Refusal::NotInUse { cell: 1 }),
+    )?;
     check_eq(slate.equate(&mut short, a, a), Err(Refusal::TooShort))?;
     check_eq(slate.compare(&mut short, a, a), Err(Refusal::TooShort))?;
     check_eq(slate.compare(&mut work, a, a), Ok(true))?;

@@ -10,17 +10,18 @@ ghost use Rattle.slate.specs.Cells.{content-of, Counted};
 ghost use Rattle.slate.specs.Slates.{in-use, supplied, Wiped, Kept, wrote-or, Written};
 use crate::cell::Cell;
 use crate::cell::Content;
+use crate::input::all_in_use;
 use crate::limits::MOST_ARGUMENTS;
 use crate::limits::MOST_CELLS;
 use crate::refusal::Refusal;
 use crate::slate::Slate;
-use crate::input::all_in_use;
 use leaf::kind::Leaf;
 
 // Writes into a cell, which is joined to none.
 fn put<L: Leaf>(cells: &mut [Cell<L>], i: usize, content: Content<L>)
     requires { ⌜ i < length (now cells) ⌝ }
-    ensures { λ _. ⌜ now (cells .exit) ≡ set (now (cells .entry)) i (record { content = content; joined = None }) ⌝ }
+    ensures { λ _. ⌜ now (cells .exit) ≡
+        set (now (cells .entry)) i (record { content = content; joined = None }) ⌝ }
 {
     cells[i] = Cell {
         content,
@@ -87,7 +88,8 @@ impl<L: Leaf> Slate<L> {
 
     // Writes a node over at most four cells in use, and returns its number.
     pub fn node(&mut self, symbol: u16, args: &[u16]) -> Result<u16, Refusal>
-        ensures { λ r. ⌜ Kept (now (self .entry)) (now (self .exit)) (write-node symbol (now (args .entry))) (wrote-or r) ⌝ }
+        ensures { λ r. ⌜ Kept (now (self .entry)) (now (self .exit))
+            (write-node symbol (now (args .entry))) (wrote-or r) ⌝ }
     {
         if args.len() > MOST_ARGUMENTS {
             return Err(Refusal::TooManyArguments);

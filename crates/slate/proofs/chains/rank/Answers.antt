@@ -1,4 +1,4 @@
-use mathlib.Core.Path.{_≡_, ap}
+use mathlib.Core.Path.{ap}
 use Rattle.unify.specs.Cells.{rank, rank-of}
 use Rattle.slate.proofs.chains.rank.Needs as need
 

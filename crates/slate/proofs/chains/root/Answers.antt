@@ -1,8 +1,6 @@
-use borrow.Author.Needs.{needs}
-use mathlib.Core.Path.{_≡_, refl, sym, _∙_, ap, subst}
+use mathlib.Core.Path.{_≡_, sym, _∙_, subst}
 use Prim.Native.Nat.{_<_, _≤_}
 use lib.ListN.{length, length-map}
-use Rattle.unify.specs.Cells.{joined-at, root}
 use Rattle.unify.proofs.Roots.{root-some, root-none, target-inside}
 use Rattle.slate.specs.Cells.{cell-of, cells-of}
 use Rattle.slate.proofs.chains.root.Needs as need
@@ -14,7 +12,8 @@ loop-next-again g c =
     let n : length cs ≡ length (c .args .cells .now) = length-map (c .args .cells .now) cell-of in
     let e = sym (c .in-Some .ensures tt) in (
       subst (λ m. c .in-Some .next < m) n
-          (target-inside cs (c .pre .descends) (subst (λ m. m ≤ 2048) (sym n) (c .pre .few)) (c .loop-next .at) (c .in-Some .next) e
+          (target-inside cs (c .pre .descends) (subst (λ m. m ≤ 2048) (sym n) (c .pre .few)) (c .loop-next .at)
+          (c .in-Some .next) e
           (subst (λ m. c .loop-next .at < m) (sym n) (c .loop-next .inv .0))),
       sym (root-some cs (c .pre .descends) (c .loop-next .at) (c .in-Some .next) e) ∙ c .loop-next .inv .1,
     )
@@ -22,6 +21,7 @@ loop-next-again g c =
 -- src/lib.rt:42:1
 pub returns : need.returns
 returns g c = record {
-  is = sym (root-none (cells-of (c .args .cells .now)) (c .loop-next .at) (sym (c .in-rest .ensures tt))) ∙ c .loop-next .inv .1;
+  is = sym (root-none (cells-of (c .args .cells .now)) (c .loop-next .at) (sym (c .in-rest .ensures tt)))
+      ∙ c .loop-next .inv .1;
   inside = c .loop-next .inv .0;
 }

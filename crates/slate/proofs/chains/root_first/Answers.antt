@@ -1,7 +1,7 @@
-use mathlib.Core.Path.{_≡_, sym, _∙_, subst}
-use Prim.Native.Nat.{_<_, _≤_}
+use mathlib.Core.Path.{subst}
+use Prim.Native.Nat.{_≤_}
 use native.Mathlib.Omega.{arith}
-use lib.ListN.{length, take, length-take}
+use lib.ListN.{take, length-take}
 use Rattle.slate.proofs.Steps.{number}
 use Rattle.slate.proofs.chains.root_first.Needs as need
 

@@ -5,7 +5,12 @@ use Rattle.slate.proofs.undo.unlink.Needs as need
 
 pub returns : need.returns
 returns g c = record {
-  is = set-rejoin (c .args .cells .now) (c .args .i) (record { content = c .written-content .result; joined = None }) (c .pre .inside) (c .written-content .ensures .is);
-  counted = set-counted (c .args .cells .now) (c .args .i) (record { content = c .written-content .result; joined = None }) (c .pre .counted) (c .written-content .ensures .counted);
+  is = set-rejoin (c .args .cells .now) (c .args .i) (record { content = c .written-content .result; joined = None })
+      (c .pre .inside) (c .written-content .ensures .is);
+  counted = set-counted (c .args .cells .now) (c .args .i) (record {
+    content = c .written-content .result;
+    joined =
+        None;
+  }) (c .pre .counted) (c .written-content .ensures .counted);
   as-many = length-set _ _ _;
 }

@@ -1,7 +1,7 @@
-use mathlib.Core.Path.{_≡_, sym, ap, subst}
+use mathlib.Core.Path.{_≡_, sym, subst}
 use mathlib.Core.List.{_++_}
-use lib.ListN.{length, take, drop}
-use Rattle.slate.specs.Cells.{cells-of, Sound}
+use lib.ListN.{take, drop}
+use Rattle.slate.specs.Cells.{cells-of, WellFormed}
 use Rattle.slate.specs.Loops.{Did}
 use Rattle.slate.proofs.Front.{front, front-as-many}
 use Rattle.slate.proofs.unifier.unify_first.Needs as need
@@ -9,9 +9,11 @@ use Rattle.slate.proofs.unifier.unify_first.Needs as need
 pub returns : need.returns
 returns g c =
     let xs = c .args .cells .now in
-    let e : take (c .args .used) (c .unify .last .cells ++ drop (c .args .used) xs) ≡ c .unify .last .cells = front (c .args .used) xs (c .unify .last .cells) (c .pre .part) (c .unify .kept .cells) in
+    let e : take (c .args .used) (c .unify .last .cells ++ drop (c .args .used) xs) ≡ c .unify .last .cells = front
+    (c .args .used) xs (c .unify .last .cells) (c .pre .part) (c .unify .kept .cells) in
     record {
-      did = subst (λ ys. Did (cells-of (take (c .args .used) xs)) (cells-of ys) (c .args .a) (c .args .b) (c .unify .result)) (sym e) (c .unify .ensures .did);
-      sound = subst Sound (sym e) (c .unify .ensures .sound);
+      did = subst (λ ys. Did (cells-of (take (c .args .used) xs)) (cells-of ys) (c .args .a) (c .args .b)
+          (c .unify .result)) (sym e) (c .unify .ensures .did);
+      sound = subst WellFormed (sym e) (c .unify .ensures .sound);
       as-many = front-as-many (c .args .used) xs (c .unify .last .cells) (c .pre .part) (c .unify .kept .cells);
     }

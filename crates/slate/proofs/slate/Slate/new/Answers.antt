@@ -1,4 +1,3 @@
-use mathlib.Core.List.{[]}
 use mathlib.Core.Path.{refl}
 use native.Mathlib.Omega.{arith}
 use Rattle.theory.proofs.CarriedSittings.{wiped}
