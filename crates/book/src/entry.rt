@@ -32,7 +32,10 @@ impl<const N: usize> CellNumbers<N> {
         for (i, n) in numbers.iter().enumerate() {
             cells[i] = *n;
         }
-        Some(CellNumbers { len: count as u8, cells })
+        Some(CellNumbers {
+            len: count as u8,
+            cells,
+        })
     }
 }
 

@@ -2,13 +2,13 @@
 ghost use Prim.Native.Nat.{_≤_};
 ghost use lib.ListN.{length};
 ghost use Rattle.std.specs.Vec.{made};
+use leaf::accession_number::AccessionNumber;
+use leaf::accession_number::AccessionNumberLeaf;
+use leaf::accession_number::AccessionNumberWireLeaf;
 use std::error::AnyError;
 use std::io;
 use std::io::Read;
 use std::io::Write;
-use leaf::accession_number::AccessionNumber;
-use leaf::accession_number::AccessionNumberLeaf;
-use leaf::accession_number::AccessionNumberWireLeaf;
 use wire::list_refusal::ListRefusal;
 use wire::listing::list;
 
@@ -37,7 +37,8 @@ fn run(rt: &LibcRuntime) -> Result<(), AnyError> {
     let mut output = [0; 65536];
     match list::<AccessionNumberWireLeaf>(rt.alloc(), &input[0..count], &mut output) {
         Ok(length) => rt.stdout().write_all(&output[0..length])?,
-        Err(ListRefusal::ShortOutput) => return Err("the listing is longer than 65536 bytes".into()),
+        Err(ListRefusal::ShortOutput) =>
+            return Err("the listing is longer than 65536 bytes".into()),
         Err(ListRefusal::NoMemory) => return Err("out of memory".into()),
     }
     Ok(())

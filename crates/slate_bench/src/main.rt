@@ -1,8 +1,4 @@
 // Times equate and compare over growing terms. It prints nothing unless it is called with the word `times`.
-use std::alloc::Global;
-use std::env;
-use std::error::AnyError;
-use std::time::Instant;
 use leaf::accession_number::AccessionNumber;
 use leaf::accession_number::AccessionNumberLeaf;
 use slate::cell::Cell;
@@ -10,6 +6,10 @@ use slate::cell::CellClone as _;
 use slate::cell::Content;
 use slate::refusal::Refusal;
 use slate::slate::Slate;
+use std::alloc::Global;
+use std::env;
+use std::error::AnyError;
+use std::time::Instant;
 
 // The kinds of term that are timed.
 #[derive(Clone, Copy)]
@@ -31,7 +31,10 @@ fn refused(refusal: Refusal) -> AnyError {
 
 // A wiped slate on 2,048 cells.
 fn wiped(heap: Global) -> Result<Terms, AnyError> {
-    let cell = Cell { content: Content::Open, joined: None };
+    let cell = Cell {
+        content: Content::Open,
+        joined: None,
+    };
     let cells = vec![in heap; cell; 2048]?;
     Ok(Slate::new(cells))
 }
@@ -87,14 +90,25 @@ fn paired(heap: Global, slate: &mut Terms, row: &[u16]) -> Result<Vec<u16>, AnyE
 }
 
 // One term of the shape, of about so many cells; the second cycle of a pair is one node longer, so that their lengths are coprime.
-fn term(heap: Global, slate: &mut Terms, work: &mut [u16], shape: Shape, cells: u16, second: bool) -> Result<u16, AnyError> {
+fn term(
+    heap: Global,
+    slate: &mut Terms,
+    work: &mut [u16],
+    shape: Shape,
+    cells: u16,
+    second: bool,
+) -> Result<u16, AnyError> {
     let built = match shape {
         Shape::Tree => return tree(heap, slate, cells / 2),
         Shape::List => match slate.leaf(AccessionNumber(7)) {
             Ok(leaf) => chain(slate, leaf, cells.saturating_sub(1)),
             Err(refusal) => Err(refusal),
         },
-        Shape::Cycle => cycle(slate, work, cells.saturating_sub(2).saturating_add(second as u16)),
+        Shape::Cycle => cycle(
+            slate,
+            work,
+            cells.saturating_sub(2).saturating_add(second as u16),
+        ),
     };
     match built {
         Ok(cell) => Ok(cell),
@@ -117,7 +131,10 @@ fn trial(rt: &LibcRuntime, name: &str, shape: Shape, cells: u16) -> Result<(), A
     if equal.is_err() || accepted.is_err() {
         return Err("a call was refused".into());
     }
-    println!(rt, "{name} of {cells} cells: compare {compared:?}, equate {equated:?}")?;
+    println!(
+        rt,
+        "{name} of {cells} cells: compare {compared:?}, equate {equated:?}"
+    )?;
     Ok(())
 }
 

@@ -1,8 +1,5 @@
 // Lists many books, good and damaged. Each line of the input has the leaf kind, `number` or `mark`, and the book in words:
 // hexadecimal bytes, or such a word with `*N` behind it for N of them in a row.
-use std::alloc::Global;
-use std::error::AnyError;
-use std::io;
 use book::interface::Book;
 use form::fault::FaultDebug;
 use form::fault::FaultPartialEq;
@@ -13,6 +10,9 @@ use leaf::kind::WireLeaf;
 use leaf::shelf_mark::ShelfMark;
 use leaf::shelf_mark::ShelfMarkLeaf;
 use leaf::shelf_mark::ShelfMarkWireLeaf;
+use std::alloc::Global;
+use std::error::AnyError;
+use std::io;
 use wire::byte_book::ByteBook;
 use wire::byte_book::ByteBookBook;
 use wire::inspect::inspect;
@@ -56,11 +56,19 @@ fn expand(heap: Global, words: &str) -> Result<Vec<u8>, AnyError> {
 }
 
 // Whether the writer gives back the bytes before the first fault, and all of them where there is none.
-fn writes_back<L: WireLeaf>(heap: Global, book: &ByteBook<L>, bytes: &[u8]) -> Result<bool, AnyError> {
+fn writes_back<L: WireLeaf>(
+    heap: Global,
+    book: &ByteBook<L>,
+    bytes: &[u8],
+) -> Result<bool, AnyError> {
     let mut out = vec![in heap; 0; bytes.len()]?;
     let whole = book.fault().is_none();
     match write::<L, ByteBookBook<L>>(book, &mut out) {
-        Ok(count) => Ok(count <= bytes.len() && out.as_slice().starts_with(&bytes[0..count]) && (!whole || count == bytes.len())),
+        Ok(count) => Ok(
+            count <= bytes.len()
+                && out.as_slice().starts_with(&bytes[0..count])
+                && (!whole || count == bytes.len()),
+        ),
         Err(_) => Ok(false),
     }
 }

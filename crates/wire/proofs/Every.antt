@@ -42,13 +42,13 @@ mark-is (p ∷ ps) (suc n) = mark-is ps n
 
 -- the cells with those numbers are nodes just where they are marked
 pub every-marked : {V : Type 0} (ps : List (Part V)) (marks : List Bool) → marks-of ps ≡ marks → (xs : List ℕ) →
-  every (node-at ps) xs ≡ every (λ n. getD marks n false) xs
+    every (node-at ps) xs ≡ every (λ n. getD marks n false) xs
 every-marked ps marks e xs =
     sym (every-same (λ n. getD (marks-of ps) n false) (node-at ps) (mark-is ps) xs) ∙ ap (λ ms. every (λ n. getD ms n false) xs) e
 
 -- one number more, and one that fails
 pub every-more : (f : ℕ → Bool) (xs : List ℕ) (i : ℕ) → i < length xs → every f (take i xs) ≡ true → f (getD xs i 0) ≡ true →
-  every f (take (i + 1) xs) ≡ true
+    every f (take (i + 1) xs) ≡ true
 every-more f xs i h t e =
     let P : ℕ → Type 0 = λ n. f n ≡ true in
     let d : (n : ℕ) → Decides (f n) (P n) = λ n. ((λ u. u), λ u. u) in

@@ -30,9 +30,9 @@ module _ (bs : List ℕ) (s : Split) (of : SplitOf bs s) where
 
   module _ {V : Type 0} (wide : ℕ) (reading : List ℕ → Option V) (place n : ℕ) where
     after-found : (x : Found V) →
-      found wide reading place n (record { tag = s .tag; contents = now (s .contents) }) (entry-kind (s .tag)) ≡ x →
-      row-of wide reading place n bs
-      ≡ on-found x (row-of wide reading (place + (length bs - length (now (s .rest)))) (n + 1) (now (s .rest)))
+        found wide reading place n (record { tag = s .tag; contents = now (s .contents) }) (entry-kind (s .tag)) ≡ x →
+        row-of wide reading place n bs
+        ≡ on-found x (row-of wide reading (place + (length bs - length (now (s .rest)))) (n + 1) (now (s .rest)))
     after-found x e =
         let next : next-place place (first-field bs) ≡ place + (length bs - length (now (s .rest))) = omega (arith, lengths bs s of) in
         let more : suc n ≡ n + 1 = omega arith in
@@ -45,14 +45,18 @@ module _ (bs : List ℕ) (s : Split) (of : SplitOf bs s) where
 
     -- what was found in the field is what the row comes to
     pub row-step : (r : Result GoodEntry Fault) → FoundAs wide reading place n s r →
-      made r (λ e. length (now (e .left)) < length bs) × RowStep wide reading place n bs r
+        made r (λ e. length (now (e .left)) < length bs) × RowStep wide reading place n bs r
     row-step (Ok e) h =
         let left : now (e .left) ≡ now (s .rest) = h .2 in
         let long = lengths bs s of in
-        let size : length (now (e .contents)) ≡ length (first-field bs .contents) = ap length (h .1 ∙ of .contents) in
-        (omega (arith, ap length left, long),
-          (h .3 .0, h .3 .1,
+        let size : length (now (e .contents)) ≡ length (first-field bs .contents) = ap length (h .1 ∙ of .contents) in (
+          omega (arith, ap length left, long),
+          (
+            h .3 .0,
+            h .3 .1,
             after-found (entry (entry-with (h .3 .0) e)) (h .3 .2)
-            ∙ ap (λ (xs : List ℕ). on-found (entry (entry-with (h .3 .0) e)) (row-of wide reading (place + (length bs - length xs)) (n + 1) xs)) (sym left),
-            omega (arith, h .0, size, long)))
+                ∙ ap (λ (xs : List ℕ). on-found (entry (entry-with (h .3 .0) e)) (row-of wide reading (place + (length bs - length xs)) (n + 1) xs)) (sym left),
+            omega (arith, h .0, size, long),
+          ),
+        )
     row-step (Err f) h = (tt, after-found (fault f) h)

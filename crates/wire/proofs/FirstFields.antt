@@ -47,53 +47,53 @@ module _ (bs : List ℕ) (s : Split) (of : SplitOf bs s) where
     next-is = omega (arith, lengths)
 
     same-field : seen wide reading ps (first-field bs .contents) (shape (first-field bs .tag))
-      ≡ seen wide reading ps (now (s .contents)) (shape (s .tag))
+        ≡ seen wide reading ps (now (s .contents)) (shape (s .tag))
     same-field =
         ap (λ xs. seen wide reading ps xs (shape (first-field bs .tag))) (sym (of .contents))
         ∙ ap (λ t. seen wide reading ps (now (s .contents)) (shape t)) (sym (of .tag))
 
     -- what the contents come to, from what the field is
     after-seen : (t : _) → seen wide reading ps (now (s .contents)) (shape (s .tag)) ≡ t →
-      ending-of wide reading ps place bs
-      ≡ on-seen t place (λ p. ending-of wide reading (ps ++ p ∷ []) (place + (length bs - length (now (s .rest)))) (now (s .rest)))
+        ending-of wide reading ps place bs
+        ≡ on-seen t place (λ p. ending-of wide reading (ps ++ p ∷ []) (place + (length bs - length (now (s .rest)))) (now (s .rest)))
         (λ head body. goals-end ps head body (place + (length bs - length (now (s .rest)))) (cut (now (s .rest)) .fields) (cut (now (s .rest)) .left))
     after-seen t e =
         ending-whole wide reading ps place bs (of .whole-field)
         ∙ ap (λ q. on-seen q place (λ p. ending-of wide reading (ps ++ p ∷ []) (next-place place (first-field bs)) (after-field bs))
-          (λ head body. goals-end ps head body (next-place place (first-field bs)) (cut (after-field bs) .fields) (cut (after-field bs) .left))) (same-field ∙ e)
+        (λ head body. goals-end ps head body (next-place place (first-field bs)) (cut (after-field bs) .fields) (cut (after-field bs) .left))) (same-field ∙ e)
         ∙ ap (λ n. on-seen t place (λ p. ending-of wide reading (ps ++ p ∷ []) n (after-field bs))
-          (λ head body. goals-end ps head body n (cut (after-field bs) .fields) (cut (after-field bs) .left))) next-is
+        (λ head body. goals-end ps head body n (cut (after-field bs) .fields) (cut (after-field bs) .left))) next-is
         ∙ ap (λ (xs : List ℕ). on-seen t place (λ p. ending-of wide reading (ps ++ p ∷ []) (place + (length bs - length (now (s .rest)))) xs)
-          (λ head body. goals-end ps head body (place + (length bs - length (now (s .rest)))) (cut xs .fields) (cut xs .left))) (sym (of .rest))
+        (λ head body. goals-end ps head body (place + (length bs - length (now (s .rest)))) (cut xs .fields) (cut xs .left))) (sym (of .rest))
 
     -- a field that was read
     pub goes-on : (n : ℕ) (item : Item V) →
-      ItemMeans place n (seen wide reading ps (now (s .contents)) (shape (s .tag))) (Ok item) → GoesOn wide reading ps place bs item (now (s .rest))
+        ItemMeans place n (seen wide reading ps (now (s .contents)) (shape (s .tag))) (Ok item) → GoesOn wide reading ps place bs item (now (s .rest))
     goes-on n (Cell c) e = (cell-room wide reading ps (now (s .contents)) (shape (s .tag)) (part-of c) e, after-seen (cell (part-of c)) e)
     goes-on n (Goals g) e = after-seen (goals (g .head) (listed (g .body))) e
 
     -- a field with a fault
     pub goes-wrong : (n : ℕ) (f : Fault) →
-      ItemMeans {V = V} place n (seen wide reading ps (now (s .contents)) (shape (s .tag))) (Err f) →
-      (r : Result (Step V) Fault) → ((y : Fault) × (r ≡ Err y) × (y ≡ f)) → StepMeans wide reading ps place n bs r
+        ItemMeans {V = V} place n (seen wide reading ps (now (s .contents)) (shape (s .tag))) (Err f) →
+        (r : Result (Step V) Fault) → ((y : Fault) × (r ≡ Err y) × (y ≡ f)) → StepMeans wide reading ps place n bs r
     goes-wrong n f m r p =
         let at : f .place ≡ place = ap (λ x. x .place) (m .1) in
         subst (StepMeans wide reading ps place n bs) (sym (p .1 ∙ ap Err (p .2)))
         (after-seen (wrong (f .cause)) (m .0) ∙ ap (bad (f .cause)) (sym at), m .1 ∙ ap (λ q. inner-fault (f .cause) q n) (sym at))
 
 module _ {V : Type 0} (wide : ℕ) (reading : List ℕ → Option V) (ps : List (Part V)) (place : ℕ) (bs left : List ℕ) (item : Item V)
-  (goes : GoesOn wide reading ps place bs item left) where
+    (goes : GoesOn wide reading ps place bs item left) where
   -- a cell that was read, and marked as it is
   module _ (x : EntryCell V) (is : item ≡ Cell x) where
     to-cell : GoesOn wide reading ps place bs (Cell x) left
     to-cell = subst (λ i. GoesOn wide reading ps place bs i left) is goes
 
     pub goes-to : ending-of wide reading ps place bs
-      ≡ ending-of wide reading (ps ++ part-of x ∷ []) (place + (length bs - length left)) left
+        ≡ ending-of wide reading (ps ++ part-of x ∷ []) (place + (length bs - length left)) left
     goes-to = to-cell .1
 
     pub marks-cell : (marks all : List Bool) (b : Bool) → marks-of ps ≡ marks → b ≡ node-part (part-of x) →
-      (length marks < 64 → all ≡ marks ++ b ∷ []) → marks-of (ps ++ part-of x ∷ []) ≡ all
+        (length marks < 64 → all ≡ marks ++ b ∷ []) → marks-of (ps ++ part-of x ∷ []) ≡ all
     marks-cell marks all b m t pushed =
         let n : length marks < 64 = omega (arith, to-cell .0, length-map ps node-part, ap length m) in
         map-push node-part ps (part-of x) ∙ ap (λ ms. ms ++ node-part (part-of x) ∷ []) m ∙ ap (λ c. marks ++ c ∷ []) (sym t) ∙ sym (pushed n)
@@ -118,16 +118,17 @@ module _ {V : Type 0} (wide : ℕ) (reading : List ℕ → Option V) (ps : List 
     ends-with qs h b e = only (cut left .fields) (cut left .left) (sym to-goals ∙ e)
       where
         only : (fs : List Field) (xs : List ℕ) →
-          goals-end ps (g .head) (listed (g .body)) (place + (length bs - length left)) fs xs ≡ complete qs h b → ps ≡ qs
+            goals-end ps (g .head) (listed (g .body)) (place + (length bs - length left)) fs xs ≡ complete qs h b → ps ≡ qs
         only [] [] f = cc
         only [] (x ∷ xs) f = let z : _≡_ {A = ℕ} 0 1 = cc in absurd (omega arith)
         only (x ∷ fs) xs f = let z : _≡_ {A = ℕ} 0 1 = cc in absurd (omega arith)
 
 -- a fault that was made ends the contents as it says
 pub ends-badly : {V : Type 0} (e : Ending V) (x : Fault) (k : Cause) (p n : ℕ) → x ≡ inner-fault k p n → e ≡ bad k p →
-  (e ≡ bad (x .cause) (x .place)) × (x ≡ inner-fault (x .cause) (x .place) n)
+    (e ≡ bad (x .cause) (x .place)) × (x ≡ inner-fault (x .cause) (x .place) n)
 ends-badly e x k p n is h =
     let cause : k ≡ x .cause = sym (ap (λ f. f .cause) is) in
-    let place : p ≡ x .place = sym (ap (λ f. f .place) is) in
-    (h ∙ ap (λ c. bad c p) cause ∙ ap (bad (x .cause)) place,
-      is ∙ ap (λ c. inner-fault c p n) cause ∙ ap (λ q. inner-fault (x .cause) q n) place)
+    let place : p ≡ x .place = sym (ap (λ f. f .place) is) in (
+      h ∙ ap (λ c. bad c p) cause ∙ ap (bad (x .cause)) place,
+      is ∙ ap (λ c. inner-fault c p n) cause ∙ ap (λ q. inner-fault (x .cause) q n) place,
+    )

@@ -29,7 +29,7 @@ use Rattle.wire.proofs.Seen.{goals-seen, goals-wrong, leaf-full, leaf-read, no
 
 -- a fault that is passed on names the cause that the field was seen to be wrong by
 pub fault-item : {V : Type 0} (s : Seen V) (r : Result (Item V) Fault) (place at n : ℕ) (k : Cause) (x : Fault) →
-  ((y : Fault) × (r ≡ Err y) × (y ≡ x)) → x ≡ inner-fault k at n → at ≡ place → s ≡ wrong k → ItemMeans place n s r
+    ((y : Fault) × (r ≡ Err y) × (y ≡ x)) → x ≡ inner-fault k at n → at ≡ place → s ≡ wrong k → ItemMeans place n s r
 fault-item s r place at n k x p e same w =
     let is : p .0 ≡ inner-fault k place n = p .2 ∙ e ∙ ap (λ q. inner-fault k q n) same in
     let cause : p .0 .cause ≡ k = ap (λ f. f .cause) is in
@@ -37,7 +37,7 @@ fault-item s r place at n k x p e same w =
     (w ∙ ap wrong (sym cause), is ∙ ap (λ c. inner-fault c place n) (sym cause))
 
 module _ {V : Type 0} (wide : ℕ) (reading : List ℕ → Option V) (ps : List (Part V)) (marks : List Bool)
-  (marked : marks-of ps ≡ marks) (place tag : ℕ) (bs : List ℕ) (field : Field) (is-field : IsField wide place tag bs field) where
+    (marked : marks-of ps ≡ marks) (place tag : ℕ) (bs : List ℕ) (field : Field) (is-field : IsField wide place tag bs field) where
   many : length ps ≡ length marks
   many = sym (length-map ps node-part) ∙ ap length marked
 
@@ -71,7 +71,7 @@ module _ {V : Type 0} (wide : ℕ) (reading : List ℕ → Option V) (ps : List 
         ∙ leaf-full wide reading ps bs (is-leaf .2) (omega (arith, many))
 
     pub a-leaf : (o : Option V) → length marks < 64 → reading (now bytes) ≡ o →
-      seen wide reading ps bs (shape tag) ≡ leaf-seen o
+        seen wide reading ps bs (shape tag) ≡ leaf-seen o
     a-leaf o h r =
         ap (seen wide reading ps bs) (is-leaf .1)
         ∙ leaf-read wide reading ps bs o (is-leaf .2) (omega (arith, many)) (ap reading (sym (is-leaf .3)) ∙ r)
@@ -89,18 +89,18 @@ module _ {V : Type 0} (wide : ℕ) (reading : List ℕ → Option V) (ps : List 
         ∙ node-full wide reading ps bs (is-node .2) (is-node .3) (omega (arith, many))
 
     lower : (r : Bool) → every (λ a. ltb a (length marks)) (now args) ≡ r →
-      every (λ a. ltb a (length ps)) (drop 2 bs) ≡ r
+        every (λ a. ltb a (length ps)) (drop 2 bs) ≡ r
     lower r t = ap (λ n. every (λ a. ltb a n) (drop 2 bs)) many ∙ ap (every (λ a. ltb a (length marks))) (sym (is-node .5)) ∙ t
 
     pub bad-node : length marks < 64 → every (λ a. ltb a (length marks)) (now args) ≡ false →
-      seen wide reading ps bs (shape tag) ≡ wrong WrongCell
+        seen wide reading ps bs (shape tag) ≡ wrong WrongCell
     bad-node h t =
         ap (seen wide reading ps bs) (is-node .1)
         ∙ node-wrong wide reading ps bs (is-node .2) (is-node .3) (omega (arith, many)) (lower false t)
 
     pub a-node : (n : Node) → length marks < 64 → n .symbol ≡ symbol → listed (n .args) ≡ now args →
-      every (λ a. ltb a (length marks)) (now args) ≡ true →
-      seen wide reading ps bs (shape tag) ≡ cell (node (n .symbol) (listed (n .args)))
+        every (λ a. ltb a (length marks)) (now args) ≡ true →
+        seen wide reading ps bs (shape tag) ≡ cell (node (n .symbol) (listed (n .args)))
     a-node n h s l t =
         let symbols = s ∙ is-node .4 in
         let lists = l ∙ is-node .5 in
@@ -132,7 +132,7 @@ module _ {V : Type 0} (wide : ℕ) (reading : List ℕ → Option V) (ps : List 
         ∙ goals-wrong wide reading ps bs (is-goals .2) (is-goals .3) (nodes false t)
 
     pub a-goals : (h : ℕ) (b : List ℕ) → h ≡ head → b ≡ now body → every (λ n. getD marks n false) (head ∷ now body) ≡ true →
-      seen wide reading ps bs (shape tag) ≡ goals h b
+        seen wide reading ps bs (shape tag) ≡ goals h b
     a-goals h b eh eb t =
         ap (seen wide reading ps bs) (is-goals .1)
         ∙ goals-seen wide reading ps bs (is-goals .2) (is-goals .3) (nodes true t)

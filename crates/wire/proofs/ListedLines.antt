@@ -27,7 +27,7 @@ module _ {V : Type 0} where
       ∙ ap (λ k. line-of n k (length (e .parts)) (length (e .body))) (kind-kept (e .kind))
 
   lines-from : (n : ℕ) (es : List (Entry V)) (i : ℕ) (o : Outline) → outline-at es i ≡ Some o →
-    entry-lines n (take (suc i) es) ≡ entry-lines n (take i es) ++ line-of (n + i) (kind-of (o .kind)) (o .cells) (o .goals)
+      entry-lines n (take (suc i) es) ≡ entry-lines n (take i es) ++ line-of (n + i) (kind-of (o .kind)) (o .cells) (o .goals)
   lines-from n [] i o h = let z : _≡_ {A = ℕ} 0 1 = cc in absurd (omega arith)
   lines-from n (e ∷ es) zero o h =
       let f : outline-of e ≡ o = cc in
@@ -41,8 +41,8 @@ module _ {V : Type 0} where
 
   -- one line more
   pub one-line-more : (es : List (Entry V)) (i : ℕ) (o : Outline) (text line more : List ℕ) → outline-at es i ≡ Some o →
-    text ≡ entry-lines 0 (take i es) → line ≡ line-of i (kind-of (o .kind)) (o .cells) (o .goals) → more ≡ text ++ line →
-    more ≡ entry-lines 0 (take (i + 1) es)
+      text ≡ entry-lines 0 (take i es) → line ≡ line-of i (kind-of (o .kind)) (o .cells) (o .goals) → more ≡ text ++ line →
+      more ≡ entry-lines 0 (take (i + 1) es)
   one-line-more es i o text line more h t l m =
       let a : 0 + i ≡ i = omega arith in
       let b : suc i ≡ i + 1 = omega arith in

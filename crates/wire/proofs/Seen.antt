@@ -33,28 +33,28 @@ module _ {V : Type 0} (wide : ℕ) (reading : List ℕ → Option V) (ps : List 
   leaf-full e h = rw (has-length (length bs) wide e, le-leb 64 (length ps) h)
 
   pub leaf-read : (o : Option V) → length bs ≡ wide → length ps < 64 → reading bs ≡ o →
-    seen wide reading ps bs (Some leaf-field) ≡ leaf-seen o
+      seen wide reading ps bs (Some leaf-field) ≡ leaf-seen o
   leaf-read o e h r = rw (has-length (length bs) wide e, lt-leb 64 (length ps) h) (ap leaf-seen r)
 
   pub node-full : 2 ≤ length bs → length bs ≤ 6 → 64 ≤ length ps → seen wide reading ps bs (Some node-field) ≡ wrong TooMuch
   node-full l u h = rw (lies-between 2 (length bs) 6 l u, le-leb 64 (length ps) h)
 
   pub node-wrong : 2 ≤ length bs → length bs ≤ 6 → length ps < 64 → every (λ a. ltb a (length ps)) (drop 2 bs) ≡ false →
-    seen wide reading ps bs (Some node-field) ≡ wrong WrongCell
+      seen wide reading ps bs (Some node-field) ≡ wrong WrongCell
   node-wrong l u h e =
       rw (lies-between 2 (length bs) 6 l u, lt-leb 64 (length ps) h, ap not e)
 
   pub node-seen : 2 ≤ length bs → length bs ≤ 6 → length ps < 64 → every (λ a. ltb a (length ps)) (drop 2 bs) ≡ true →
-    seen wide reading ps bs (Some node-field) ≡ cell (node (getD bs 0 0 * 256 + getD bs 1 0) (drop 2 bs))
+      seen wide reading ps bs (Some node-field) ≡ cell (node (getD bs 0 0 * 256 + getD bs 1 0) (drop 2 bs))
   node-seen l u h e =
       rw (lies-between 2 (length bs) 6 l u, lt-leb 64 (length ps) h, ap not e)
 
   pub goals-wrong : 1 ≤ length bs → length bs ≤ 9 → every (node-at ps) bs ≡ false →
-    seen wide reading ps bs (Some goals-field) ≡ wrong WrongCell
+      seen wide reading ps bs (Some goals-field) ≡ wrong WrongCell
   goals-wrong l u e = rw (lies-between 1 (length bs) 9 l u, ap not e)
 
   pub goals-seen : 1 ≤ length bs → length bs ≤ 9 → every (node-at ps) bs ≡ true →
-    seen wide reading ps bs (Some goals-field) ≡ goals (getD bs 0 0) (drop 1 bs)
+      seen wide reading ps bs (Some goals-field) ≡ goals (getD bs 0 0) (drop 1 bs)
   goals-seen l u e = rw (lies-between 1 (length bs) 9 l u, ap not e)
 
   -- what was read as a cell had room
@@ -66,10 +66,12 @@ module _ {V : Type 0} (wide : ℕ) (reading : List ℕ → Option V) (ps : List 
       short false c s k j t f =
           let g : wrong j ≡ cell p = sym (ap (λ d. cond d (wrong j) s) t) ∙ f in
           let z : _≡_ {A = ℕ} 0 1 = cc in omega arith
+
       never : (b c : Bool) (k j : Cause) (h : ℕ) (xs : List ℕ) → cond b (wrong k) (cond c (wrong j) (goals h xs)) ≡ cell p → ⊥
       never true c k j h xs f = let z : _≡_ {A = ℕ} 0 1 = cc in omega arith
       never false true k j h xs f = let z : _≡_ {A = ℕ} 0 1 = cc in omega arith
       never false false k j h xs f = let z : _≡_ {A = ℕ} 0 1 = cc in omega arith
+
       full : (sh : Option Shape) → seen wide reading ps bs sh ≡ cell p → leb 64 (length ps) ≡ true → ⊥
       full None f t = let z : _≡_ {A = ℕ} 0 1 = cc in omega arith
       full (Some variable-field) f t = short (not (eqb (length bs) 0)) (leb 64 (length ps)) (cell variable) WrongLength TooMuch t f

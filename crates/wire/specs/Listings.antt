@@ -49,7 +49,7 @@ abbrev pub last-line : ℕ → Option Fault → List ℕ
 last-line n None = codes "entries " ++ (decimal n ++ codes "\n")
 last-line n (Some f) =
     codes "fault " ++ (decimal (cause-number (f .cause)) ++ (codes " place " ++ (decimal (f .place) ++ (codes " entry "
-      ++ (decimal (f .entry) ++ (codes " layer " ++ (layer-word (f .layer) ++ codes "\n")))))))
+    ++ (decimal (f .entry) ++ (codes " layer " ++ (layer-word (f .layer) ++ codes "\n")))))))
 
 -- the whole listing
 unfoldable pub listing-of : {V : Type 0} → List (Entry V) → Option Fault → List ℕ

@@ -104,8 +104,8 @@ module _ {V : Type 0} (wide : ℕ) (reading : List ℕ → Option V) where
   FoundAs place n s (Ok e) =
       (e .place ≡ place + 3) × (now (e .contents) ≡ now (s .contents)) × (now (e .left) ≡ now (s .rest))
       × ((ps : List (Part V))
-        × (ending-of wide reading [] (e .place) (now (e .contents)) ≡ complete ps (e .goals .head) (listed (e .goals .body)))
-        × (found wide reading place n (record { tag = s .tag; contents = now (s .contents) }) (entry-kind (s .tag)) ≡ entry (entry-with ps e)))
+      × (ending-of wide reading [] (e .place) (now (e .contents)) ≡ complete ps (e .goals .head) (listed (e .goals .body)))
+      × (found wide reading place n (record { tag = s .tag; contents = now (s .contents) }) (entry-kind (s .tag)) ≡ entry (entry-with ps e)))
   FoundAs place n s (Err f) =
       found wide reading place n (record { tag = s .tag; contents = now (s .contents) }) (entry-kind (s .tag)) ≡ fault f
 
@@ -115,7 +115,7 @@ module _ {V : Type 0} (wide : ℕ) (reading : List ℕ → Option V) where
       (ps : List (Part V))
       × (ending-of wide reading [] (e .place) (now (e .contents)) ≡ complete ps (e .goals .head) (listed (e .goals .body)))
       × (row-of wide reading place n bs
-        ≡ on-found (entry (entry-with ps e)) (row-of wide reading (place + (length bs - length (now (e .left)))) (n + 1) (now (e .left))))
+      ≡ on-found (entry (entry-with ps e)) (row-of wide reading (place + (length bs - length (now (e .left)))) (n + 1) (now (e .left))))
       × (e .place + length (now (e .contents)) ≤ place + length bs)
   RowStep place n bs (Err f) = row-of wide reading place n bs ≡ record { entries = []; first-fault = Some f }
 

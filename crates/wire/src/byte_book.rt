@@ -4,8 +4,9 @@ ghost use Rattle.std.specs.Vec.{made};
 ghost use Rattle.theory.specs.Entries.{BookRules};
 ghost use Rattle.book.specs.Tables.{row-entries, table-entries};
 ghost use Rattle.form.specs.Meanings.{meaning};
-use std::alloc::AllocError;
-use std::alloc::Global;
+use crate::faults::in_row;
+use crate::inspect::MOST_BYTES;
+use crate::load::load;
 use book::entry::EntryCell;
 use book::entry::Outline;
 use book::interface::Book;
@@ -15,9 +16,8 @@ use form::fault::Cause;
 use form::fault::Fault;
 use leaf::kind::Leaf;
 use leaf::kind::WireLeaf;
-use crate::faults::in_row;
-use crate::inspect::MOST_BYTES;
-use crate::load::load;
+use std::alloc::AllocError;
+use std::alloc::Global;
 
 // A book read from bytes: the entries before their first fault. The bytes are read once, when it is opened.
 #[derive(Drop)]
@@ -55,7 +55,10 @@ impl<L: Leaf> ByteBook<L> {
     fn table(&self) -> Table<'_, L>
         ensures { λ r. ⌜ table-entries r ≡ row-entries (vec-items (now (self .entry) .cells)) (vec-items (now (self .entry) .rows)) ⌝ }
     {
-        Table { rows: self.rows.as_slice(), cells: self.cells.as_slice() }
+        Table {
+            rows: self.rows.as_slice(),
+            cells: self.cells.as_slice(),
+        }
     }
 }
 

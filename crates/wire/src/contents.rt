@@ -1,7 +1,7 @@
-use book::entry::EntryKind;
 use crate::item::Goals;
 use crate::item::Item;
 use crate::item::ItemClone;
+use book::entry::EntryKind;
 
 // One field of an entry, read, and the bytes that follow it.
 #[derive(Clone, Copy)]

@@ -4,15 +4,19 @@ ghost use Rattle.std.specs.Results.{Cases};
 ghost use Rattle.theory.specs.Entries.{Part};
 ghost use Rattle.form.specs.Meanings.{inner-fault, seen, shape, wrong};
 ghost use Rattle.wire.specs.Reads.{IsField};
-use form::fault::Cause;
-use form::fault::Fault;
-use leaf::kind::WireLeaf;
 use crate::faults::inside;
 use crate::field::Field;
 use crate::field::Split;
+use form::fault::Cause;
+use form::fault::Fault;
+use leaf::kind::WireLeaf;
 
 // The field of an entry by its tag, if its length is one that the tag allows.
-pub fn decode<'a, L: WireLeaf>(split: &Split<'a>, place: usize, entry: usize) -> Result<Field<'a>, Fault>
+pub fn decode<'a, L: WireLeaf>(
+    split: &Split<'a>,
+    place: usize,
+    entry: usize,
+) -> Result<Field<'a>, Fault>
     ensures { λ r. ⌜ Cases r (IsField (L·WireLeaf .wide) place (now (split .entry) .tag) (now (now (split .entry) .contents))) (λ f. (f ≡ inner-fault (f .cause) place «entry») × ((ps : List (Part L)) → seen (L·WireLeaf .wide) (L·WireLeaf .reading) ps (now (now (split .entry) .contents)) (shape (now (split .entry) .tag)) ≡ wrong (f .cause))) ⌝ }
 {
     let contents = split.contents;
@@ -25,7 +29,10 @@ pub fn decode<'a, L: WireLeaf>(split: &Split<'a>, place: usize, entry: usize) ->
             if contents.len() != L::width() {
                 return Err(inside(Cause::WrongLength, place, entry));
             }
-            Ok(Field::Leaf { place, bytes: contents })
+            Ok(Field::Leaf {
+                place,
+                bytes: contents,
+            })
         }
         18 => match contents {
             [hi, lo, args @ ..] => {
@@ -33,7 +40,11 @@ pub fn decode<'a, L: WireLeaf>(split: &Split<'a>, place: usize, entry: usize) ->
                     return Err(inside(Cause::WrongLength, place, entry));
                 }
                 let symbol = u16::from(*hi) * 256 + u16::from(*lo);
-                Ok(Field::Node { place, symbol, args })
+                Ok(Field::Node {
+                    place,
+                    symbol,
+                    args,
+                })
             }
             _ => Err(inside(Cause::WrongLength, place, entry)),
         },
@@ -42,7 +53,11 @@ pub fn decode<'a, L: WireLeaf>(split: &Split<'a>, place: usize, entry: usize) ->
                 if body.len() > 8 {
                     return Err(inside(Cause::WrongLength, place, entry));
                 }
-                Ok(Field::Goals { place, head: *head, body })
+                Ok(Field::Goals {
+                    place,
+                    head: *head,
+                    body,
+                })
             }
             _ => Err(inside(Cause::WrongLength, place, entry)),
         },

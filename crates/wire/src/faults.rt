@@ -12,12 +12,22 @@ pub fn inside(cause: Cause, place: usize, entry: usize) -> Fault
         Cause::WrongLeaf => Layer::Leaf,
         _ => Layer::Entry,
     };
-    Fault { cause, place, entry, layer }
+    Fault {
+        cause,
+        place,
+        entry,
+        layer,
+    }
 }
 
 // A fault at a field of the book's row.
 pub fn in_row(cause: Cause, place: usize, entry: usize) -> Fault
     ensures { λ r. ⌜ r ≡ row-fault cause place «entry» ⌝ }
 {
-    Fault { cause, place, entry, layer: Layer::Book }
+    Fault {
+        cause,
+        place,
+        entry,
+        layer: Layer::Book,
+    }
 }

@@ -1,10 +1,23 @@
 // A field of an entry, with the place of its tag in the book. Its contents are borrowed from the book's bytes.
 #[derive(Clone, Copy)]
 pub enum Field<'a> {
-    Variable { place: usize },
-    Leaf { place: usize, bytes: &'a [u8] },
-    Node { place: usize, symbol: u16, args: &'a [u8] },
-    Goals { place: usize, head: u8, body: &'a [u8] },
+    Variable {
+        place: usize,
+    },
+    Leaf {
+        place: usize,
+        bytes: &'a [u8],
+    },
+    Node {
+        place: usize,
+        symbol: u16,
+        args: &'a [u8],
+    },
+    Goals {
+        place: usize,
+        head: u8,
+        body: &'a [u8],
+    },
 }
 
 // A field before its tag is looked at, and the bytes that follow it.

@@ -4,11 +4,11 @@ ghost use lib.ListN.{length};
 ghost use Rattle.std.specs.Results.{Cases};
 ghost use Rattle.std.specs.declared.option.Option.the-variants.{None, Some};
 ghost use Rattle.form.specs.Meanings.{meaning, row-of};
+use crate::faults::in_row;
+use crate::read_entry::next_entry;
 use form::fault::Cause;
 use form::fault::Fault;
 use leaf::kind::WireLeaf;
-use crate::faults::in_row;
-use crate::read_entry::next_entry;
 
 // A book has at most so many bytes.
 pub const MOST_BYTES: usize = 65535;

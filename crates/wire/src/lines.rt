@@ -5,12 +5,12 @@ ghost use Rattle.std.specs.Vec.{made};
 ghost use Rattle.std.specs.declared.option.Option.the-variants.{Some};
 ghost use Rattle.book.specs.Answers.{kind-of};
 ghost use Rattle.wire.specs.Listings.{kind-word, last-line, layer-word, line-of};
-use std::alloc::AllocError;
-use std::alloc::Global;
 use book::entry::EntryKind;
 use book::entry::Outline;
 use form::fault::Fault;
 use form::fault::Layer;
+use std::alloc::AllocError;
+use std::alloc::Global;
 
 // The word for a kind of entry.
 fn kind_text(kind: EntryKind) -> &'static str
@@ -61,5 +61,8 @@ fn fault_text(heap: Global, fault: &Fault) -> Result<String, AllocError>
     let place = fault.place;
     let entry = fault.entry;
     let layer = layer_text(fault.layer);
-    format!(heap, "fault {number} place {place} entry {entry} layer {layer}\n")
+    format!(
+        heap,
+        "fault {number} place {place} entry {entry} layer {layer}\n"
+    )
 }

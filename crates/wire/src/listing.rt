@@ -4,21 +4,25 @@ ghost use Rattle.std.specs.Of.String.{string-bytes};
 ghost use Rattle.std.specs.Vec.{made};
 ghost use Rattle.form.specs.Meanings.{meaning};
 ghost use Rattle.wire.specs.Listings.{ListMeans, listing-of};
-use std::alloc::AllocError;
-use std::alloc::Global;
-use book::interface::Book;
-use form::fault::Fault;
-use leaf::kind::Leaf;
-use leaf::kind::WireLeaf;
-use leaf::output::put;
 use crate::byte_book::ByteBook;
 use crate::byte_book::ByteBookBook;
 use crate::lines::entry_text;
 use crate::lines::last_text;
 use crate::list_refusal::ListRefusal;
+use book::interface::Book;
+use form::fault::Fault;
+use leaf::kind::Leaf;
+use leaf::kind::WireLeaf;
+use leaf::output::put;
+use std::alloc::AllocError;
+use std::alloc::Global;
 
 // The text of a book's listing: a line for each entry, then their number, or the fault that ends them.
-pub fn list_text<L: Leaf, B: Book<L>>(heap: Global, book: &B, fault: Option<Fault>) -> Result<String, AllocError>
+pub fn list_text<L: Leaf, B: Book<L>>(
+    heap: Global,
+    book: &B,
+    fault: Option<Fault>,
+) -> Result<String, AllocError>
     ensures { λ r. ⌜ made r (λ s. string-bytes s ≡ listing-of (B·Book .entries (now (book .entry))) fault) ⌝ }
 {
     let mut text = String::new(heap);

@@ -6,16 +6,20 @@ ghost use Rattle.std.specs.Of.Vec.{vec-items, vec-len};
 ghost use Rattle.std.specs.Vec.{made};
 ghost use Rattle.book.specs.Tables.{row-entries};
 ghost use Rattle.form.specs.Meanings.{row-of};
-use std::alloc::AllocError;
+use crate::read_entry::next_entry;
+use crate::store::add_entry;
 use book::entry::EntryCell;
 use book::table::Row;
 use form::fault::Fault;
 use leaf::kind::WireLeaf;
-use crate::read_entry::next_entry;
-use crate::store::add_entry;
+use std::alloc::AllocError;
 
 // Adds the entries of the book's row, up to the first fault, to empty rows and cells, and gives that fault.
-pub fn load<L: WireLeaf>(bytes: &[u8], rows: &mut Vec<Row>, cells: &mut Vec<EntryCell<L>>) -> Result<Option<Fault>, AllocError>
+pub fn load<L: WireLeaf>(
+    bytes: &[u8],
+    rows: &mut Vec<Row>,
+    cells: &mut Vec<EntryCell<L>>,
+) -> Result<Option<Fault>, AllocError>
     requires { ⌜ length (now bytes) ≤ 65535 ⌝ ∗ ⌜ vec-items (now rows) ≡ [] ⌝ ∗ ⌜ vec-items (now cells) ≡ [] ⌝ }
     ensures { λ r. ⌜ made r (λ f. (row-of (L·WireLeaf .wide) (L·WireLeaf .reading) 0 0 (now (bytes .entry)) .entries ≡ row-entries (vec-items (now (cells .exit))) (vec-items (now (rows .exit)))) × (row-of (L·WireLeaf .wide) (L·WireLeaf .reading) 0 0 (now (bytes .entry)) .first-fault ≡ f)) ⌝ }
 {

@@ -19,7 +19,10 @@ impl Nodes {
     pub fn new() -> Nodes
         ensures { λ r. ⌜ take (r .count) (r .marks) ≡ [] ⌝ }
     {
-        Nodes { marks: [false; 64], count: 0 }
+        Nodes {
+            marks: [false; 64],
+            count: 0,
+        }
     }
 
     // A mark for each cell read so far.

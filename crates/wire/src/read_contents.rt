@@ -7,9 +7,6 @@ ghost use Rattle.std.specs.Vec.{made};
 ghost use Rattle.theory.specs.Entries.{Part};
 ghost use Rattle.wire.specs.Marks.{marks-of};
 ghost use Rattle.wire.specs.Reads.{ContentsMean, StepMeans};
-use form::fault::Cause;
-use form::fault::Fault;
-use leaf::kind::WireLeaf;
 use crate::contents::Step;
 use crate::faults::inside;
 use crate::item::Goals;
@@ -18,9 +15,17 @@ use crate::nodes::Nodes;
 use crate::nodes::is_node;
 use crate::read_field::read_field;
 use crate::split::split;
+use form::fault::Cause;
+use form::fault::Fault;
+use leaf::kind::WireLeaf;
 
 // Reads the field that the bytes begin with, after the cells read so far, of which the nodes are marked.
-pub fn step<'a, L: WireLeaf>(rest: &'a [u8], nodes: &[bool], place: usize, entry: usize) -> Result<Step<'a, L>, Fault>
+pub fn step<'a, L: WireLeaf>(
+    rest: &'a [u8],
+    nodes: &[bool],
+    place: usize,
+    entry: usize,
+) -> Result<Step<'a, L>, Fault>
     requires { ⌜ 0 < length (now rest) ⌝ }
     ensures shorter { λ r. ⌜ made r (λ s. length (now (s .left)) < length (now (rest .entry))) ⌝ }
     ensures means { λ r. ⌜ ((ps : List (Part L)) → marks-of ps ≡ now (nodes .entry) → StepMeans (L·WireLeaf .wide) (L·WireLeaf .reading) ps place «entry» (now (rest .entry)) r) ⌝ }
@@ -28,14 +33,21 @@ pub fn step<'a, L: WireLeaf>(rest: &'a [u8], nodes: &[bool], place: usize, entry
     match split(rest) {
         Some(field) => {
             let item = read_field(&field, nodes, place, entry)?;
-            Ok(Step { item, left: field.rest })
+            Ok(Step {
+                item,
+                left: field.rest,
+            })
         }
         None => Err(inside(Cause::PastEnd, place, entry)),
     }
 }
 
 // Tests the contents of an entry, and gives its goals; none where the contents end without them.
-pub fn test_contents<L: WireLeaf>(contents: &[u8], place: usize, entry: usize) -> Result<Option<Goals>, Fault>
+pub fn test_contents<L: WireLeaf>(
+    contents: &[u8],
+    place: usize,
+    entry: usize,
+) -> Result<Option<Goals>, Fault>
     requires { ⌜ place + length (now contents) ≤ 65535 ⌝ }
     ensures { λ r. ⌜ ContentsMean (L·WireLeaf .wide) (L·WireLeaf .reading) place «entry» (now (contents .entry)) r ⌝ }
 {

@@ -9,16 +9,16 @@ ghost use Rattle.theory.specs.Entries.{Part};
 ghost use Rattle.book.specs.Answers.{kind-of};
 ghost use Rattle.form.specs.Meanings.{closed, entry-kind};
 ghost use Rattle.wire.specs.Reads.{ClosedAs, FoundAs, RowStep, ending-read};
-use book::entry::EntryKind;
-use form::fault::Cause;
-use form::fault::Fault;
-use leaf::kind::WireLeaf;
 use crate::contents::GoodEntry;
 use crate::faults::in_row;
 use crate::field::Split;
 use crate::item::Goals;
 use crate::read_contents::test_contents;
 use crate::split::split;
+use book::entry::EntryKind;
+use form::fault::Cause;
+use form::fault::Fault;
+use leaf::kind::WireLeaf;
 
 // The kind of entry that the tag stands for.
 fn kind_of(tag: u8) -> Option<EntryKind>
@@ -50,7 +50,11 @@ fn close(kind: EntryKind, goals: Option<Goals>, place: usize, entry: usize) -> R
 }
 
 // Tests a field of the book's row as an entry.
-fn test_entry<'a, L: WireLeaf>(field: &Split<'a>, place: usize, entry: usize) -> Result<GoodEntry<'a>, Fault>
+fn test_entry<'a, L: WireLeaf>(
+    field: &Split<'a>,
+    place: usize,
+    entry: usize,
+) -> Result<GoodEntry<'a>, Fault>
     requires { ⌜ place + (3 + length (now (now field .contents))) ≤ 65535 ⌝ }
     ensures { λ r. ⌜ FoundAs (L·WireLeaf .wide) (L·WireLeaf .reading) place «entry» (now (field .entry)) r ⌝ }
 {
@@ -63,11 +67,21 @@ fn test_entry<'a, L: WireLeaf>(field: &Split<'a>, place: usize, entry: usize) ->
     let contents = field.contents;
     let goals = test_contents::<L>(contents, place + 3, entry)?;
     let goals = close(kind, goals, place, entry)?;
-    Ok(GoodEntry { kind, goals, place: place + 3, contents, left: field.rest })
+    Ok(GoodEntry {
+        kind,
+        goals,
+        place: place + 3,
+        contents,
+        left: field.rest,
+    })
 }
 
 // Tests the entry that the bytes begin with.
-pub fn next_entry<'a, L: WireLeaf>(rest: &'a [u8], place: usize, entry: usize) -> Result<GoodEntry<'a>, Fault>
+pub fn next_entry<'a, L: WireLeaf>(
+    rest: &'a [u8],
+    place: usize,
+    entry: usize,
+) -> Result<GoodEntry<'a>, Fault>
     requires { ⌜ 0 < length (now rest) ⌝ ∗ ⌜ place + length (now rest) ≤ 65535 ⌝ }
     ensures shorter { λ r. ⌜ made r (λ e. length (now (e .left)) < length (now (rest .entry))) ⌝ }
     ensures means { λ r. ⌜ RowStep (L·WireLeaf .wide) (L·WireLeaf .reading) place «entry» (now (rest .entry)) r ⌝ }

@@ -13,6 +13,12 @@ ghost use Rattle.form.specs.declared.fault.Cause.the-variants.{TooMuch, WrongCe
 ghost use Rattle.form.specs.Meanings.{every, inner-fault, seen, shape};
 ghost use Rattle.wire.specs.Marks.{marks-of};
 ghost use Rattle.wire.specs.Reads.{ItemMeans};
+use crate::decode::decode;
+use crate::faults::inside;
+use crate::field::Field;
+use crate::field::Split;
+use crate::item::Goals;
+use crate::item::Item;
 use book::entry::CellNumbers;
 use book::entry::EntryCell;
 use book::entry::Node;
@@ -20,12 +26,6 @@ use book::rules::all_below;
 use form::fault::Cause;
 use form::fault::Fault;
 use leaf::kind::WireLeaf;
-use crate::decode::decode;
-use crate::faults::inside;
-use crate::field::Field;
-use crate::field::Split;
-use crate::item::Goals;
-use crate::item::Item;
 
 // Whether one cell more may come after so many.
 fn room(count: usize, place: usize, entry: usize) -> Result<(), Fault>
@@ -49,7 +49,13 @@ fn read_leaf<L: WireLeaf>(bytes: &[u8], place: usize, entry: usize) -> Result<L,
 }
 
 // The node over lower cells, of which there are so many.
-fn read_node(symbol: u16, args: &[u8], count: usize, place: usize, entry: usize) -> Result<Node, Fault>
+fn read_node(
+    symbol: u16,
+    args: &[u8],
+    count: usize,
+    place: usize,
+    entry: usize,
+) -> Result<Node, Fault>
     requires { ⌜ length (now args) ≤ 4 ⌝ }
     ensures { λ r. ⌜ Cases r (λ n. (n .symbol ≡ symbol) × (listed (n .args) ≡ now (args .entry)) × (every (λ a. ltb a count) (now (args .entry)) ≡ true)) (λ f. (every (λ a. ltb a count) (now (args .entry)) ≡ false) × (f ≡ inner-fault WrongCell place «entry»)) ⌝ }
 {
@@ -83,7 +89,13 @@ fn marked(nodes: &[bool], number: u8) -> bool
 }
 
 // The head and the body goals, which are nodes among the cells.
-fn read_goals(head: u8, body: &[u8], nodes: &[bool], place: usize, entry: usize) -> Result<Goals, Fault>
+fn read_goals(
+    head: u8,
+    body: &[u8],
+    nodes: &[bool],
+    place: usize,
+    entry: usize,
+) -> Result<Goals, Fault>
     requires { ⌜ length (now body) ≤ 8 ⌝ }
     ensures { λ r. ⌜ Cases r (λ g. (g .head ≡ head) × (listed (g .body) ≡ now (body .entry)) × (every (λ n. getD (now (nodes .entry)) n false) (head ∷ now (body .entry)) ≡ true)) (λ f. (every (λ n. getD (now (nodes .entry)) n false) (head ∷ now (body .entry)) ≡ false) × (f ≡ inner-fault WrongCell place «entry»)) ⌝ }
 {
@@ -97,7 +109,12 @@ fn read_goals(head: u8, body: &[u8], nodes: &[bool], place: usize, entry: usize)
 }
 
 // Reads one field of an entry, after the cells read so far, of which the nodes are marked.
-pub fn read_field<L: WireLeaf>(split: &Split<'_>, nodes: &[bool], place: usize, entry: usize) -> Result<Item<L>, Fault>
+pub fn read_field<L: WireLeaf>(
+    split: &Split<'_>,
+    nodes: &[bool],
+    place: usize,
+    entry: usize,
+) -> Result<Item<L>, Fault>
     ensures { λ r. ⌜ ((ps : List (Part L)) → marks-of ps ≡ now (nodes .entry) → ItemMeans place «entry» (seen (L·WireLeaf .wide) (L·WireLeaf .reading) ps (now (now (split .entry) .contents)) (shape (now (split .entry) .tag))) r) ⌝ }
 {
     let count = nodes.len();
@@ -112,7 +129,11 @@ pub fn read_field<L: WireLeaf>(split: &Split<'_>, nodes: &[bool], place: usize, 
             let value = read_leaf(bytes, place, entry)?;
             Ok(Item::Cell(EntryCell::Leaf(value)))
         }
-        Field::Node { place, symbol, args } => {
+        Field::Node {
+            place,
+            symbol,
+            args,
+        } => {
             room(count, place, entry)?;
             let node = read_node(symbol, args, count, place, entry)?;
             Ok(Item::Cell(EntryCell::Node(node)))

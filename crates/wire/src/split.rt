@@ -15,7 +15,11 @@ pub fn split(bytes: &[u8]) -> Option<Split<'_>>
             if size > rest.len() {
                 return None;
             }
-            Some(Split { tag: *tag, contents: &rest[0..size], rest: &rest[size..] })
+            Some(Split {
+                tag: *tag,
+                contents: &rest[0..size],
+                rest: &rest[size..],
+            })
         }
         _ => None,
     }

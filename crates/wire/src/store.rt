@@ -7,19 +7,23 @@ ghost use Rattle.std.specs.Of.Vec.{vec-items, vec-len};
 ghost use Rattle.std.specs.Vec.{made};
 ghost use Rattle.theory.specs.Entries.{Part};
 ghost use Rattle.wire.specs.Reads.{Stores, Adds};
-use std::alloc::AllocError;
-use book::entry::EntryCell;
-use book::entry::EntryCellClone;
-use book::table::Row;
-use leaf::kind::WireLeaf;
 use crate::contents::GoodEntry;
 use crate::item::Item;
 use crate::nodes::Nodes;
 use crate::nodes::is_node;
 use crate::read_contents::step;
+use book::entry::EntryCell;
+use book::entry::EntryCellClone;
+use book::table::Row;
+use leaf::kind::WireLeaf;
+use std::alloc::AllocError;
 
 // Adds the cells of a good entry's contents to the list.
-fn store_cells<L: WireLeaf>(contents: &[u8], place: usize, cells: &mut Vec<EntryCell<L>>) -> Result<(), AllocError>
+fn store_cells<L: WireLeaf>(
+    contents: &[u8],
+    place: usize,
+    cells: &mut Vec<EntryCell<L>>,
+) -> Result<(), AllocError>
     requires { ⌜ place + length (now contents) ≤ 65535 ⌝ }
     ensures { λ r. ⌜ made r (λ _. Stores (L·WireLeaf .wide) (L·WireLeaf .reading) place (now (contents .entry)) (vec-items (now (cells .entry))) (vec-items (now (cells .exit)))) ⌝ }
 {
@@ -44,14 +48,24 @@ fn store_cells<L: WireLeaf>(contents: &[u8], place: usize, cells: &mut Vec<Entry
 }
 
 // Adds a good entry to the rows and its cells to the cells.
-pub fn add_entry<L: WireLeaf>(rows: &mut Vec<Row>, cells: &mut Vec<EntryCell<L>>, entry: &GoodEntry<'_>) -> Result<(), AllocError>
+pub fn add_entry<L: WireLeaf>(
+    rows: &mut Vec<Row>,
+    cells: &mut Vec<EntryCell<L>>,
+    entry: &GoodEntry<'_>,
+) -> Result<(), AllocError>
     requires { ⌜ now entry .place + length (now (now entry .contents)) ≤ 65535 ⌝ }
     ensures { λ r. ⌜ made r (λ _. (ps : List (Part L)) → Adds (L·WireLeaf .wide) (L·WireLeaf .reading) (now («entry» .entry)) ps (vec-items (now (rows .entry))) (vec-items (now (rows .exit))) (vec-items (now (cells .entry))) (vec-items (now (cells .exit)))) ⌝ }
 {
     let first = cells.len();
     store_cells::<L>(entry.contents, entry.place, cells)?;
     let count = cells.len().saturating_sub(first);
-    let row = Row { kind: entry.kind, first, cells: count, head: entry.goals.head, body: entry.goals.body };
+    let row = Row {
+        kind: entry.kind,
+        first,
+        cells: count,
+        head: entry.goals.head,
+        body: entry.goals.body,
+    };
     rows.push(row)?;
     Ok(())
 }

@@ -11,9 +11,14 @@ pub returns-else-args-gt4 : need.returns-else-args-gt4
 returns-else-args-gt4 g c =
     let bs = c .args .split .now .contents .now in
     let n : 2 ≤ length bs = omega (arith, ltb-false) in
-    let m = ap length (take-rest bs 2) in
-    (refl, ap shape (c .in-18 .is), n, omega (arith, m, length-drop 2 bs), omega (arith, c .from .ensures, c .from-in-len2-up .ensures),
-      take-rest bs 2)
+    let m = ap length (take-rest bs 2) in (
+      refl,
+      ap shape (c .in-18 .is),
+      n,
+      omega (arith, m, length-drop 2 bs),
+      omega (arith, c .from .ensures, c .from-in-len2-up .ensures),
+      take-rest bs 2,
+    )
 
 pub returns-else-body-gt8 : need.returns-else-body-gt8
 returns-else-body-gt8 g c =

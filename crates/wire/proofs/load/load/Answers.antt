@@ -21,12 +21,14 @@ loop-rest-again g c =
     let bs = c .loop-rest .rest .now in
     let left = c .in-Ok .entry .left .now in
     let book = row-of wide reading 0 0 (c .args .bytes .now) in
-    let n : length (vec-items (c .loop-rest .rows)) ≡ c .len .result = omega (arith, c .len .ensures, c .loop-rest .rows .ok .0) in
-    (omega (arith, c .in-Ok .ensures tt .shorter, inv .0), a .0,
+    let n : length (vec-items (c .loop-rest .rows)) ≡ c .len .result = omega (arith, c .len .ensures, c .loop-rest .rows .ok .0) in (
+      omega (arith, c .in-Ok .ensures tt .shorter, inv .0),
+      a .0,
       keeps-entries wide reading book _ _ _ (c .loop-rest .at) _ (c .len .result) (length (vec-items (c .loop-rest .rows)))
-      (length (vec-items (c .add-entry .last .rows))) bs left n (h .2) (a .2) (a .1) (inv .2),
+          (length (vec-items (c .add-entry .last .rows))) bs left n (h .2) (a .2) (a .1) (inv .2),
       keeps-fault wide reading book _ _ _ (c .loop-rest .at) _ (c .len .result) (length (vec-items (c .loop-rest .rows)))
-      (length (vec-items (c .add-entry .last .rows))) bs left n (h .2) (a .2) (a .1) (inv .3))
+          (length (vec-items (c .add-entry .last .rows))) bs left n (h .2) (a .2) (a .1) (inv .3),
+    )
 
 pub returns : need.returns
 returns g c =

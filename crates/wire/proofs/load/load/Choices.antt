@@ -13,10 +13,10 @@ abbrev pub Inv-loop-rest : given.InvT-loop-rest
 Inv-loop-rest g l =
     (l .at + length (l .rest) ≤ 65535) × Inside (vec-items (l .cells)) (vec-items (l .rows))
     × (row-of (g .L·WireLeaf .wide) (g .L·WireLeaf .reading) 0 0 (l .bytes) .entries
-      ≡ row-entries (vec-items (l .cells)) (vec-items (l .rows))
-        ++ row-of (g .L·WireLeaf .wide) (g .L·WireLeaf .reading) (l .at) (length (vec-items (l .rows))) (l .rest) .entries)
+    ≡ row-entries (vec-items (l .cells)) (vec-items (l .rows))
+    ++ row-of (g .L·WireLeaf .wide) (g .L·WireLeaf .reading) (l .at) (length (vec-items (l .rows))) (l .rest) .entries)
     × (row-of (g .L·WireLeaf .wide) (g .L·WireLeaf .reading) 0 0 (l .bytes) .first-fault
-      ≡ row-of (g .L·WireLeaf .wide) (g .L·WireLeaf .reading) (l .at) (length (vec-items (l .rows))) (l .rest) .first-fault)
+    ≡ row-of (g .L·WireLeaf .wide) (g .L·WireLeaf .reading) (l .at) (length (vec-items (l .rows))) (l .rest) .first-fault)
 
 abbrev pub μ-loop-rest : given.MeasureT-loop-rest
 μ-loop-rest g l = length (l .rest)

@@ -35,12 +35,16 @@ loop-rest-again g c =
     let item = c .in-Continue-step .step .item in
     let goes = c .in-Continue-step .ensures tt .means ps (inv .1 ∙ sym (c .held .ensures .value)) in
     let marks = take (c .loop-rest .nodes .count) (c .loop-rest .nodes .marks) in
-    let long : length marks ≡ c .loop-rest .nodes .count = ap length (sym (c .held .ensures .value)) ∙ c .held .ensures .len in
-    (omega (arith, c .in-Continue-step .ensures tt .shorter, c .loop-rest .inv .0),
-      (_, marks-cell wide reading ps at bs left item goes (c .in-Cell .cell) (c .in-Cell .is) marks
-        (take (c .push .last .self .count) (c .push .last .self .marks)) (c .is-node .result) (inv .1)
-        (c .is-node .ensures ∙ ap (λ x. node-part (part-of x)) (c .in-Cell .cell-is)) (λ n. c .push .ensures (omega (arith, n, long))),
-        inv .2 ∙ goes-to wide reading ps at bs left item goes (c .in-Cell .cell) (c .in-Cell .is)))
+    let long : length marks ≡ c .loop-rest .nodes .count = ap length (sym (c .held .ensures .value)) ∙ c .held .ensures .len in (
+      omega (arith, c .in-Continue-step .ensures tt .shorter, c .loop-rest .inv .0),
+      (
+        _,
+        marks-cell wide reading ps at bs left item goes (c .in-Cell .cell) (c .in-Cell .is) marks
+            (take (c .push .last .self .count) (c .push .last .self .marks)) (c .is-node .result) (inv .1)
+            (c .is-node .ensures ∙ ap (λ x. node-part (part-of x)) (c .in-Cell .cell-is)) (λ n. c .push .ensures (omega (arith, n, long))),
+        inv .2 ∙ goes-to wide reading ps at bs left item goes (c .in-Cell .cell) (c .in-Cell .is),
+      ),
+    )
 
 pub returns-then-is-empty : need.returns-then-is-empty
 returns-then-is-empty g c =
@@ -52,10 +56,12 @@ returns-then-is-empty g c =
     let bs = c .loop-rest .rest .now in
     let left = c .in-Continue-step .step .left .now in
     let item = c .in-Continue-step .step .item in
-    let goes = c .in-Continue-step .ensures tt .means ps (inv .1 ∙ sym (c .held .ensures .value)) in
-    (ps, inv .2
-      ∙ ends-complete wide reading ps at bs left item goes (c .in-Goals .goals) (c .in-Goals .is)
-      (eqb-true (length left) 0 (sym (c .is-empty-in-Goals .ensures) ∙ c .if-is-empty .taken)))
+    let goes = c .in-Continue-step .ensures tt .means ps (inv .1 ∙ sym (c .held .ensures .value)) in (
+      ps,
+      inv .2
+          ∙ ends-complete wide reading ps at bs left item goes (c .in-Goals .goals) (c .in-Goals .is)
+          (eqb-true (length left) 0 (sym (c .is-empty-in-Goals .ensures) ∙ c .if-is-empty .taken)),
+    )
 
 pub returns-in-Goals : need.returns-in-Goals
 returns-in-Goals g c =
@@ -69,7 +75,7 @@ returns-in-Goals g c =
     let item = c .in-Continue-step .step .item in
     let goes = c .in-Continue-step .ensures tt .means ps (inv .1 ∙ sym (c .held .ensures .value)) in
     let more : 0 < length left =
-      omega (arith, eqb-false (length left) 0 (sym (c .is-empty-in-Goals .ensures) ∙ c .if-is-empty .left)) in
+    omega (arith, eqb-false (length left) 0 (sym (c .is-empty-in-Goals .ensures) ∙ c .if-is-empty .left)) in
     ends-badly _ (c .inside .result) WrongGoals _ (c .args .entry) (c .inside .ensures)
     (inv .2 ∙ ends-more wide reading ps at bs left item goes (c .in-Goals .goals) (c .in-Goals .is) more)
 

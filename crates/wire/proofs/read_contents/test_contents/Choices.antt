@@ -12,9 +12,9 @@ abbrev pub Inv-loop-rest : given.InvT-loop-rest
 Inv-loop-rest g l =
     (l .at + length (l .rest) ≡ l .place + length (l .contents))
     × ((ps : List (Part (g .L .Denot)))
-      × (marks-of ps ≡ take (l .nodes .count) (l .nodes .marks))
-      × (ending-of (g .L·WireLeaf .wide) (g .L·WireLeaf .reading) [] (l .place) (l .contents)
-        ≡ ending-of (g .L·WireLeaf .wide) (g .L·WireLeaf .reading) ps (l .at) (l .rest)))
+    × (marks-of ps ≡ take (l .nodes .count) (l .nodes .marks))
+    × (ending-of (g .L·WireLeaf .wide) (g .L·WireLeaf .reading) [] (l .place) (l .contents)
+    ≡ ending-of (g .L·WireLeaf .wide) (g .L·WireLeaf .reading) ps (l .at) (l .rest)))
 
 abbrev pub μ-loop-rest : given.MeasureT-loop-rest
 μ-loop-rest g l = length (l .rest)

@@ -12,7 +12,7 @@ pub returns-then-not-marked : need.returns-then-not-marked
 returns-then-not-marked c =
     sym
     (every-fails (λ n. getD (c .args .nodes .now) n false) (c .args .numbers .now) (c .loop-n .n-index) (omega arith)
-      (sym (c .marked .ensures) ∙ c .if-not-marked .taken))
+    (sym (c .marked .ensures) ∙ c .if-not-marked .taken))
 
 pub loop-n-again : need.loop-n-again
 loop-n-again c =

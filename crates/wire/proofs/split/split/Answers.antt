@@ -22,6 +22,6 @@ returns-else-size-rest c =
       tag = refl;
       contents = ap (take (n - 0)) tail ∙ ap (λ k. take k (drop 3 bs)) zero;
       rest =
-        ap (λ xs. take (length xs - n) (drop n xs)) tail ∙ take-rest (drop 3 bs) n ∙ drop-drop n 3 bs
-        ∙ ap (λ k. drop (3 + k) bs) same
+          ap (λ xs. take (length xs - n) (drop n xs)) tail ∙ take-rest (drop 3 bs) n ∙ drop-drop n 3 bs
+          ∙ ap (λ k. drop (3 + k) bs) same;
     }

@@ -14,10 +14,10 @@ abbrev pub Inv-loop-rest : given.InvT-loop-rest
 Inv-loop-rest g l =
     (l .at + length (l .rest) ≡ l .place + length (l .contents))
     × ((cs : List (EntryCell (g .L .Denot)))
-      × (vec-items (l .cells) ≡ vec-items (l .entry .cells) ++ cs)
-      × (marks-of (map part-of cs) ≡ take (l .nodes .count) (l .nodes .marks))
-      × (ending-of (g .L·WireLeaf .wide) (g .L·WireLeaf .reading) [] (l .place) (l .contents)
-        ≡ ending-of (g .L·WireLeaf .wide) (g .L·WireLeaf .reading) (map part-of cs) (l .at) (l .rest)))
+    × (vec-items (l .cells) ≡ vec-items (l .entry .cells) ++ cs)
+    × (marks-of (map part-of cs) ≡ take (l .nodes .count) (l .nodes .marks))
+    × (ending-of (g .L·WireLeaf .wide) (g .L·WireLeaf .reading) [] (l .place) (l .contents)
+    ≡ ending-of (g .L·WireLeaf .wide) (g .L·WireLeaf .reading) (map part-of cs) (l .at) (l .rest)))
 
 abbrev pub μ-loop-rest : given.MeasureT-loop-rest
 μ-loop-rest g l = length (l .rest)

@@ -17,9 +17,10 @@ loop-i-again g c =
     let i = c .loop-i .i in
     let inv = c .loop-i .inv in
     let here : i < length ys = omega arith in
-    let there : i < length xs = omega (arith, inv .0) in
-    (length-set xs i (getD ys i 0) ∙ inv .0,
-      take-more-set xs i (getD ys i 0) there ∙ ap (λ zs. zs ++ getD ys i 0 ∷ []) (inv .1) ∙ sym (take-more ys i 0 here))
+    let there : i < length xs = omega (arith, inv .0) in (
+      length-set xs i (getD ys i 0) ∙ inv .0,
+      take-more-set xs i (getD ys i 0) there ∙ ap (λ zs. zs ++ getD ys i 0 ∷ []) (inv .1) ∙ sym (take-more ys i 0 here),
+    )
 
 pub returns : need.returns
 returns g c =

@@ -19,9 +19,10 @@ ghost-result g c =
 
 pub returns-then-bytes-gt-MOST-BYTES : need.returns-then-bytes-gt-MOST-BYTES
 returns-then-bytes-gt-MOST-BYTES g c =
-    let m = meaning-long (g .L·WireLeaf .wide) (g .L·WireLeaf .reading) (c .args .bytes .now) (omega arith) in
-    (ap (row-entries (vec-items (c .new-cells .result))) (c .new-rows .ensures .items) ∙ sym (ap (λ x. x .entries) m),
-      ap Some (c .in-row .ensures) ∙ sym (ap (λ x. x .first-fault) m))
+    let m = meaning-long (g .L·WireLeaf .wide) (g .L·WireLeaf .reading) (c .args .bytes .now) (omega arith) in (
+      ap (row-entries (vec-items (c .new-cells .result))) (c .new-rows .ensures .items) ∙ sym (ap (λ x. x .entries) m),
+      ap Some (c .in-row .ensures) ∙ sym (ap (λ x. x .first-fault) m),
+    )
 
 pub ghost-result-2 : need.ghost-result-2
 ghost-result-2 g c =
