@@ -12,7 +12,7 @@ use crate::cell::Content;
 use leaf::kind::Leaf;
 
 // What a cell is joined to.
-pub fn link<L: Leaf>(cells: &[Cell<L>], i: u16) -> Option<u16>
+pub(crate) fn link<L: Leaf>(cells: &[Cell<L>], i: u16) -> Option<u16>
     requires { ⌜ i < length (now cells) ⌝ }
     ensures { λ r. ⌜ r ≡ joined-at (cells-of (now (cells .entry))) i ⌝ }
 {
@@ -21,7 +21,7 @@ pub fn link<L: Leaf>(cells: &[Cell<L>], i: u16) -> Option<u16>
 }
 
 // What was written into a cell.
-pub fn written<L: Leaf>(cells: &[Cell<L>], i: u16) -> Content<L>
+pub(crate) fn written<L: Leaf>(cells: &[Cell<L>], i: u16) -> Content<L>
     requires inside { ⌜ i < length (now cells) ⌝ }
     requires counted { ⌜ AllCounted (now cells) ⌝ }
     ensures is { λ r. ⌜ content-of r ≡ content-at (cells-of (now (cells .entry))) i ⌝ }
@@ -32,7 +32,7 @@ pub fn written<L: Leaf>(cells: &[Cell<L>], i: u16) -> Content<L>
 }
 
 // The cell at the end of the chain of joins.
-pub fn root<L: Leaf>(cells: &[Cell<L>], i: u16) -> u16
+pub(crate) fn root<L: Leaf>(cells: &[Cell<L>], i: u16) -> u16
     requires inside { ⌜ i < length (now cells) ⌝ }
     requires few { ⌜ length (now cells) ≤ 2048 ⌝ }
     requires descends { ⌜ Descends (cells-of (now cells)) ⌝ }
@@ -47,7 +47,7 @@ pub fn root<L: Leaf>(cells: &[Cell<L>], i: u16) -> u16
 }
 
 // The rank of a cell: joins go to lower ranks.
-pub fn rank<L: Leaf>(cells: &[Cell<L>], i: u16) -> u16
+pub(crate) fn rank<L: Leaf>(cells: &[Cell<L>], i: u16) -> u16
     requires inside { ⌜ i < length (now cells) ⌝ }
     requires few { ⌜ length (now cells) ≤ 2048 ⌝ }
     requires counted { ⌜ AllCounted (now cells) ⌝ }
@@ -61,7 +61,7 @@ pub fn rank<L: Leaf>(cells: &[Cell<L>], i: u16) -> u16
 }
 
 // The root of one of the first so many cells.
-pub fn root_first<L: Leaf>(cells: &[Cell<L>], used: usize, i: u16) -> u16
+pub(crate) fn root_first<L: Leaf>(cells: &[Cell<L>], used: usize, i: u16) -> u16
     requires part { ⌜ used ≤ length (now cells) ⌝ }
     requires sound { ⌜ WellFormed (take used (now cells)) ⌝ }
     requires inside { ⌜ i < used ⌝ }
@@ -72,7 +72,7 @@ pub fn root_first<L: Leaf>(cells: &[Cell<L>], used: usize, i: u16) -> u16
 }
 
 // Says whether a node stands at the root of one of the first so many cells.
-pub fn node_at_root<L: Leaf>(cells: &[Cell<L>], used: usize, i: u16) -> bool
+pub(crate) fn node_at_root<L: Leaf>(cells: &[Cell<L>], used: usize, i: u16) -> bool
     requires part { ⌜ used ≤ length (now cells) ⌝ }
     requires sound { ⌜ WellFormed (take used (now cells)) ⌝ }
     requires inside { ⌜ i < used ⌝ }

@@ -232,7 +232,7 @@ fn settle<L: Leaf>(
 }
 
 // Joins two cells, and all that follows from it; the trail begins anew.
-pub fn join<L: Leaf>(
+pub(crate) fn join<L: Leaf>(
     cells: &mut [Cell<L>],
     trail: &mut [u16],
     used: &mut usize,

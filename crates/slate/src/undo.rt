@@ -27,7 +27,7 @@ fn unlink<L: Leaf>(cells: &mut [Cell<L>], i: u16)
 }
 
 // Takes the joins of the trail back, the latest first.
-pub fn clear<L: Leaf>(cells: &mut [Cell<L>], trail: &[u16], used: usize)
+pub(crate) fn clear<L: Leaf>(cells: &mut [Cell<L>], trail: &[u16], used: usize)
     requires counted { ⌜ AllCounted (now cells) ⌝ }
     requires part { ⌜ used ≤ length (now trail) ⌝ }
     requires inside { ⌜ All (λ i. i < length (now cells)) (take used (now trail)) ⌝ }

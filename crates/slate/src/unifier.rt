@@ -37,7 +37,7 @@ fn compare<L: Leaf>(cells: &mut [Cell<L>], trail: &mut [u16], a: u16, b: u16) ->
 }
 
 // Unifies two of the first so many cells.
-pub fn unify_first<L: Leaf>(
+pub(crate) fn unify_first<L: Leaf>(
     cells: &mut [Cell<L>],
     used: usize,
     trail: &mut [u16],
@@ -55,7 +55,7 @@ pub fn unify_first<L: Leaf>(
 }
 
 // Compares two of the first so many cells.
-pub fn compare_first<L: Leaf>(
+pub(crate) fn compare_first<L: Leaf>(
     cells: &mut [Cell<L>],
     used: usize,
     trail: &mut [u16],

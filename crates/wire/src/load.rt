@@ -15,7 +15,7 @@ use leaf::kind::WireLeaf;
 use std::alloc::AllocError;
 
 // Adds the entries of the book's row, up to the first fault, to empty rows and cells, and gives that fault.
-pub fn load<L: WireLeaf>(
+pub(crate) fn load<L: WireLeaf>(
     bytes: &[u8],
     rows: &mut Vec<Row>,
     cells: &mut Vec<EntryCell<L>>,

@@ -20,7 +20,7 @@ use form::fault::Fault;
 use leaf::kind::WireLeaf;
 
 // Reads the field that the bytes begin with, after the cells read so far, of which the nodes are marked.
-pub fn step<'a, L: WireLeaf>(
+pub(crate) fn step<'a, L: WireLeaf>(
     rest: &'a [u8],
     nodes: &[bool],
     place: usize,
@@ -43,7 +43,7 @@ pub fn step<'a, L: WireLeaf>(
 }
 
 // Tests the contents of an entry, and gives its goals; none where the contents end without them.
-pub fn test_contents<L: WireLeaf>(
+pub(crate) fn test_contents<L: WireLeaf>(
     contents: &[u8],
     place: usize,
     entry: usize,

@@ -77,7 +77,7 @@ fn test_entry<'a, L: WireLeaf>(
 }
 
 // Tests the entry that the bytes begin with.
-pub fn next_entry<'a, L: WireLeaf>(
+pub(crate) fn next_entry<'a, L: WireLeaf>(
     rest: &'a [u8],
     place: usize,
     entry: usize,

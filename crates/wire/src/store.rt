@@ -48,7 +48,7 @@ fn store_cells<L: WireLeaf>(
 }
 
 // Adds a good entry to the rows and its cells to the cells.
-pub fn add_entry<L: WireLeaf>(
+pub(crate) fn add_entry<L: WireLeaf>(
     rows: &mut Vec<Row>,
     cells: &mut Vec<EntryCell<L>>,
     entry: &GoodEntry<'_>,
