@@ -22,6 +22,16 @@ def field(tag, contents):
     return bytes([tag, len(contents) >> 8, len(contents) & 255]) + bytes(contents)
 
 
+def first_field(data, fail):
+    """The tag, the length and the contents of the field that the bytes begin with."""
+    if len(data) < 3:
+        fail(7)
+    tag, size = data[0], data[1] * 256 + data[2]
+    if len(data) < 3 + size:
+        fail(7)
+    return tag, size, data[3:3 + size]
+
+
 def contents_of(kind, data, place, entry):
     """The kinds of the cells, the head and the body of an entry, or a Fault."""
     nodes, at = [], 0
@@ -34,12 +44,7 @@ def contents_of(kind, data, place, entry):
 
         if goals is not None:
             fail(12)
-        if len(data) - at < 3:
-            fail(7)
-        tag, size = data[at], data[at + 1] * 256 + data[at + 2]
-        inner = data[at + 3:at + 3 + size]
-        if len(inner) < size:
-            fail(7)
+        tag, size, inner = first_field(data[at:], fail)
         if tag not in (16, 17, 18, 19):
             fail(8)
         low, high = {16: (0, 0), 17: (WIDTHS[kind], WIDTHS[kind]), 18: (2, 6), 19: (1, 9)}[tag]
@@ -73,12 +78,7 @@ def listing(kind, data):
             def fail(number):
                 raise Fault(number, at, entry, "book")
 
-            if len(data) - at < 3:
-                fail(7)
-            tag, size = data[at], data[at + 1] * 256 + data[at + 2]
-            inner = data[at + 3:at + 3 + size]
-            if len(inner) < size:
-                fail(7)
+            tag, size, inner = first_field(data[at:], fail)
             if tag not in (1, 2):
                 fail(8)
             if entry >= MOST_ENTRIES:
