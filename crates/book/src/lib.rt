@@ -1,4 +1,6 @@
 // Rule books: what a book is asked, and books that stand on tables.
+#![tactic(auto)]
+
 pub mod annex;
 pub mod entry;
 mod good_rows;

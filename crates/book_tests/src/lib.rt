@@ -1,3 +1,5 @@
 // Tests of books in tables.
+#![tactic(auto)]
+
 #[cfg(test)]
 mod tests;

@@ -1,4 +1,6 @@
 // Lists a book of accession leaves that comes on standard input.
+#![tactic(auto)]
+
 ghost use Rattle.std.specs.Prelude.{◌≤◌, length, IfOk};
 
 use anyhow::anyhow;

@@ -1,4 +1,6 @@
 // The text of a sitting: the script of its calls, and the lines of their answers.
+#![tactic(auto)]
+
 pub mod answer_line;
 pub mod fault;
 pub mod lengths;

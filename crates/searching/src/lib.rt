@@ -1,5 +1,7 @@
 // The theorems over the executable search, check and sittings. Each function does nothing: its contract is the
 // theorem, and the check proves it.
+#![tactic(auto)]
+
 ghost use Rattle.std.specs.Prelude.{◌≡◌, [], map, Some};
 ghost use Rattle.std.specs.List.{AllByRecursion};
 ghost use Rattle.theory.specs.Entries.{BookRules};

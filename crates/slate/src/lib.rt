@@ -1,4 +1,6 @@
 // Slates: terms in supplied cells, written, equated and compared.
+#![tactic(auto)]
+
 pub mod input;
 pub mod limits;
 pub mod meaning;

@@ -1,4 +1,6 @@
 // Times equate and compare over growing terms. It prints nothing unless it is called with the word `times`.
+#![tactic(auto)]
+
 use anyhow::anyhow;
 use cells::cell::{Cell, Content};
 use leaf::accession_number::AccessionNumber;

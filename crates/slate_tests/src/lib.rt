@@ -1,3 +1,5 @@
 // Slates on examples. The check proves each test, and then runs it.
+#![tactic(auto)]
+
 #[cfg(test)]
 mod tests;

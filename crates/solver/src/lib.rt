@@ -1,5 +1,7 @@
 // The solver: solve searches for a record of goals, check replays one, and sit makes a whole list of calls. All three
 // keep the promise of sittings.
+#![tactic(auto)]
+
 mod answers;
 pub mod check;
 mod conclude;

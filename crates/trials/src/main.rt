@@ -1,5 +1,7 @@
 // Lists many books, good and damaged. Each line of the input has the leaf kind, `number` or `mark`, and the book in words:
 // hexadecimal bytes, or such a word with `*N` behind it for N of them in a row.
+#![tactic(auto)]
+
 use anyhow::anyhow;
 use book::interface::Book;
 use leaf::accession_number::AccessionNumber;

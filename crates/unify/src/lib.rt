@@ -1,5 +1,7 @@
 // The theorems over solved forms and the unifier. Each function does nothing: its contract is the theorem, and the check
 // proves it.
+#![tactic(auto)]
+
 ghost use Rattle.unify.specs.Theorems.{SolvedCellsHaveReadings, UnifyIsRight};
 ghost use Rattle.unify.specs.Theorems.{CompareIsRight, AtomsAreNodes};
 ghost use Rattle.unify.specs.Meaning.{MeaningIsKept};

@@ -1,4 +1,6 @@
 // Books as bytes: reading, inspecting, writing and listing them.
+#![tactic(auto)]
+
 pub mod byte_book;
 mod contents;
 mod decode;

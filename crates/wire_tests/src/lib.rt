@@ -1,3 +1,5 @@
 // Tests of books in bytes.
+#![tactic(auto)]
+
 #[cfg(test)]
 mod tests;

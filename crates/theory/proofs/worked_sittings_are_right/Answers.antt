@@ -4,9 +4,9 @@ use Rattle.theory.proofs.worked_sittings_are_right.Goals as goal
 
 pub returns : goal.returns
 returns c = record {
-  book-a-keeps-the-rules = book_a_rules;
-  over-book-a = sitting_a_right;
-  of-looping-terms = looping_right;
-  of-open-cells = open_right;
-  of-refusals = refusing_right;
+  book_a_keeps_the_rules = book_a_rules;
+  over_book_a = sitting_a_right;
+  of_looping_terms = looping_right;
+  of_open_cells = open_right;
+  of_refusals = refusing_right;
 }
