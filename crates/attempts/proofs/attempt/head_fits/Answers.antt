@@ -13,13 +13,13 @@ pub returns-in-Open : goal.returns-in-Open
 returns-in-Open g c =
     let cs = cells_of (take c.args.used c.args.cells.now) in
     λ p e h. head_open g.L.Leaf.alike (λ j. length cs + j) _ _
-    (c.in-Open.ensures.is ∙ ap (content_at cs) c.root-first-root.ensures.is)
+    (c.in-Open.ensures.is ∙ ap (content_at cs) c.root_first-root.ensures.is)
 
 pub returns-in-Leaf : goal.returns-in-Leaf
 returns-in-Leaf g c =
     let cs = cells_of (take c.args.used c.args.cells.now) in
     λ p e h. head_leaf g.L.Leaf.alike (λ j. length cs + j) c.in-Leaf.field-0 _ p
-    (c.in-Leaf.ensures.is ∙ ap (content_at cs) c.root-first-root.ensures.is) h
+    (c.in-Leaf.ensures.is ∙ ap (content_at cs) c.root_first-root.ensures.is) h
 
 pub returns-then-symbol-node : goal.returns-then-symbol-node
 returns-then-symbol-node g c =
@@ -28,7 +28,7 @@ returns-then-symbol-node g c =
     let o = slice_get (g.B.Book.entries c.args.book.now) c.args.entry in
     λ p e h. head_same g.L.Leaf.alike (λ j. length cs + j) c.in-Node.symbol n.symbol c.in-Node.count
     n.args.len c.in-Node.arguments (listed n.args) _ p
-    (c.in-Node.ensures.is ∙ ap (content_at cs) c.root-first-root.ensures.is)
+    (c.in-Node.ensures.is ∙ ap (content_at cs) c.root_first-root.ensures.is)
     (ap part_of (sym c.in-Node-cell.is) ∙ some_same (c.in-Some.ensures ∙ (cell_is o c.args.head ∙ e)))
     c.in-Node.ensures.counted (length_listed n.args.len n.args.cells) c.if-symbol-node.true
 
@@ -39,6 +39,6 @@ returns-else-symbol-node g c =
     let o = slice_get (g.B.Book.entries c.args.book.now) c.args.entry in
     λ p e h. head_other g.L.Leaf.alike (λ j. length cs + j) c.in-Node.symbol n.symbol c.in-Node.count
     n.args.len c.in-Node.arguments (listed n.args) _ p
-    (c.in-Node.ensures.is ∙ ap (content_at cs) c.root-first-root.ensures.is)
+    (c.in-Node.ensures.is ∙ ap (content_at cs) c.root_first-root.ensures.is)
     (ap part_of (sym c.in-Node-cell.is) ∙ some_same (c.in-Some.ensures ∙ (cell_is o c.args.head ∙ e)))
     c.in-Node.ensures.counted (length_listed n.args.len n.args.cells) c.if-symbol-node.false

@@ -11,8 +11,8 @@ use Rattle.attempts.proofs.Clashing.{unfit_clash}
 use Rattle.attempts.proofs.Tries.{same_trail, to_tried, front_kept, front_sound}
 use Rattle.attempts.proofs.attempt.try_entry.Goals as goal
 
-pub returns-then-not-head-fits : goal.returns-then-not-head-fits
-returns-then-not-head-fits g c =
+pub returns-then-not-head_fits : goal.returns-then-not-head_fits
+returns-then-not-head_fits g c =
     let es = g.B.Book.entries c.args.book.now in
     let rules = g.B.Book.rules c.args.book.now in
     let x = c.args.extent.now in
@@ -27,7 +27,7 @@ returns-then-not-head-fits g c =
     let head = is_there (slice_get ps out.head) (head_node es rules c.args.entry out c.requires.outlined) in
     let goal : c.args.goal < length old = omega (arith, n, t.inside) in
     let clashes = unfit_clash g.L.Leaf.alike old t.sound.solved ps (entry_parts es rules c.args.entry) few
-    c.args.goal out.head goal head.0 head.1 (sym (c.if-not-head-fits.ensures head.0 head.1 head.2)) in
+    c.args.goal out.head goal head.0 head.1 (sym (c.if-not-head_fits.ensures head.0 head.1 head.2)) in
     record {
       tried = (
         subst (λ m. (s : State g.row.L.Denot) × (unify g.L.Leaf.alike (copied (λ j. length old + j) old ps) c.args.goal
@@ -42,8 +42,8 @@ returns-then-not-head-fits g c =
       as_long = refl;
     }
 
-pub unify-on-stands-requires : goal.unify-on-stands-requires
-unify-on-stands-requires g c =
+pub unify_on-stands-requires : goal.unify_on-stands-requires
+unify_on-stands-requires g c =
     let es = g.B.Book.entries c.args.book.now in
     let out = c.args.outline in
     let ps = parts_at es c.args.entry in
@@ -53,8 +53,8 @@ unify-on-stands-requires g c =
     (head_node es (g.B.Book.rules c.args.book.now) c.args.entry out c.requires.outlined) in
     let inside : out.head < length ps = nth_within ps out.head head.0 head.1 in
     record {
-      sound = c.copy-entry.ensures.sound;
-      fits = omega (arith, t.fits, c.copy-entry.ensures.as_many);
+      sound = c.copy_entry.ensures.sound;
+      fits = omega (arith, t.fits, c.copy_entry.ensures.as_many);
       room = t.room;
       first = omega (arith, t.inside);
       second = omega (arith, inside, count, c.from.ensures);
@@ -67,18 +67,18 @@ returns-then-stands g c =
     let out = c.args.outline in
     let cells = c.args.cells.now in
     let whole = x.used + out.cells in
-    let copy = c.copy-entry.ensures in
-    let u = c.unify-on-stands.ensures in
+    let copy = c.copy_entry.ensures in
+    let u = c.unify_on-stands.ensures in
     let t = c.requires.tryable in
-    let cells' = c.unify-on-stands.new.cells in
-    let work' = c.unify-on-stands.new.work in
-    let trail' = c.unify-on-stands.new.trail in
+    let cells' = c.unify_on-stands.new.cells in
+    let work' = c.unify_on-stands.new.work in
+    let trail' = c.unify_on-stands.new.trail in
     let within : x.used ≤ length cells = omega (arith, t.fits) in
     subst (λ r. Attempted g.L.Leaf.alike ps c.args.goal (x.used + out.head) r cells c.args.work.now x cells'
     work' (record { used = whole; trail = trail' })) (sym c.if-stands.true)
     (record {
       tried = to_tried x.used cells within ps g.L.Leaf.alike true whole c.args.goal (x.used + c.from.result)
-          (x.used + out.head) c.copy-entry.new.cells (take x.trail c.args.work.now) (take trail' work')
+          (x.used + out.head) c.copy_entry.new.cells (take x.trail c.args.work.now) (take trail' work')
           (cells_of (take whole cells')) copy.is (ap (λ k. x.used + k) c.from.ensures)
           c.if-stands.ensures.joined;
       sound = u.sound;
@@ -96,16 +96,16 @@ returns-else-stands g c =
     let cells = c.args.cells.now in
     let work = c.args.work.now in
     let whole = x.used + out.cells in
-    let copy = c.copy-entry.ensures in
-    let u = c.unify-on-stands.ensures in
+    let copy = c.copy_entry.ensures in
+    let u = c.unify_on-stands.ensures in
     let t = c.requires.tryable in
-    let cells' = c.unify-on-stands.new.cells in
-    let work' = c.unify-on-stands.new.work in
-    let trail' = c.unify-on-stands.new.trail in
+    let cells' = c.unify_on-stands.new.cells in
+    let work' = c.unify_on-stands.new.work in
+    let trail' = c.unify_on-stands.new.trail in
     let within : x.used ≤ length cells = omega (arith, t.fits) in
     let more : x.used ≤ whole = omega arith in
     let j = to_tried x.used cells within ps g.L.Leaf.alike false whole c.args.goal (x.used + c.from.result)
-    (x.used + out.head) c.copy-entry.new.cells (take x.trail work) (take trail' work')
+    (x.used + out.head) c.copy_entry.new.cells (take x.trail work) (take trail' work')
     (cells_of (take whole cells')) copy.is (ap (λ k. x.used + k) c.from.ensures)
     c.if-stands.ensures.joined in
     let e : cells_of (take whole cells') ≡ copied (λ i. x.used + i) (cells_of (take x.used cells)) ps =

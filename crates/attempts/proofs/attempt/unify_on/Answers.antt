@@ -9,14 +9,14 @@ returns-then-done g c =
     let used = c.args.used in
     let at = c.args.trail.now in
     let work = c.args.work.now in
-    let cells' = c.unify-first-done.new.cells in
-    let joined = c.unify-first-done.new.joined in
-    let ys = c.unify-first-done.new.trail in
+    let cells' = c.unify_first-done.new.cells in
+    let joined = c.unify_first-done.new.joined in
+    let ys = c.unify_first-done.new.trail in
     let u = c.if-done.ensures.unifies in
     let h : at ≤ length work = omega (arith, c.requires.room) in
-    let long : length ys ≡ length work - at = c.unify-first-done.auto.trail
+    let long : length ys ≡ length work - at = c.unify_first-done.auto.trail
     ∙ omega (arith, length-take (length work - at) (drop at work), length-drop at work) in
-    let inside : joined ≤ length ys = c.unify-first-done.ensures.inside in
+    let inside : joined ≤ length ys = c.unify_first-done.ensures.inside in
     let whole = behind_long at work ys h long in
     subst (λ r. UnifiedOn g.L.Leaf.alike c.args.a c.args.b r used c.args.cells.now work at cells'
     (behind at work ys h) (at + joined)) (sym c.if-done.true)
@@ -27,9 +27,9 @@ returns-then-done g c =
         refl,
         behind_more at work ys h joined inside,
       );
-      sound = c.unify-first-done.ensures.sound;
+      sound = c.unify_first-done.ensures.sound;
       room = omega (arith, whole, long, inside);
-      as_many = c.unify-first-done.ensures.as_many;
+      as_many = c.unify_first-done.ensures.as_many;
       as_long = whole;
     })
 
@@ -38,19 +38,19 @@ returns-else-done g c =
     let used = c.args.used in
     let at = c.args.trail.now in
     let work = c.args.work.now in
-    let cells' = c.unify-first-done.new.cells in
-    let ys = c.unify-first-done.new.trail in
+    let cells' = c.unify_first-done.new.cells in
+    let ys = c.unify_first-done.new.trail in
     let u = c.if-done.ensures.unifies in
     let h : at ≤ length work = omega (arith, c.requires.room) in
-    let long : length ys ≡ length work - at = c.unify-first-done.auto.trail
+    let long : length ys ≡ length work - at = c.unify_first-done.auto.trail
     ∙ omega (arith, length-take (length work - at) (drop at work), length-drop at work) in
     let whole = behind_long at work ys h long in
     subst (λ r. UnifiedOn g.L.Leaf.alike c.args.a c.args.b r used c.args.cells.now work at cells'
     (behind at work ys h) at) (sym c.if-done.false)
     (record {
       joined = (u.0, u.1, behind_same at work ys h);
-      sound = c.unify-first-done.ensures.sound;
+      sound = c.unify_first-done.ensures.sound;
       room = omega (arith, whole, h);
-      as_many = c.unify-first-done.ensures.as_many;
+      as_many = c.unify_first-done.ensures.as_many;
       as_long = whole;
     })

@@ -11,7 +11,7 @@ use Rattle.attempts.proofs.Copying.{copied_solved}
 use Rattle.attempts.proofs.Fronts.{number_front}
 use Rattle.attempts.proofs.Instances.{one_copied, one_counted}
 use Rattle.attempts.proofs.instance.copy_entry.Goals as goal
-use Rattle.attempts.proofs.instance.copy_entry.Goals.{in-Some, in-default}
+use Rattle.attempts.proofs.instance.copy_entry.Goals.{in-Some, in_default}
 
 pub loop-j-init : goal.loop-j-init
 unfolding copied
@@ -55,7 +55,7 @@ loop-j-preserved g c =
             one_counted base j xs d inside w.content.ensures.counted inv.1,
             length-set xs (base + j) (record { content = d; joined = None }) ∙ inv.2,
           )
-      | in-default w ↦
+      | in_default w ↦
           absurd (nth_there ps j (omega (arith, c.loop-j-test.true, c.requires.whole)) (sym (w.in-default.ensures ∙ cell_is o j)))
     ]
 

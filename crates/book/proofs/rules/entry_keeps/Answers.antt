@@ -12,9 +12,9 @@ returns-then-count-lt1 g c =
     let high = rules.few_parts in
     ⊎_elim (λ h. omega arith) (λ h. omega arith) c.then-count-lt1.either
 
-pub returns-then-not-cells-keep : goal.returns-then-not-cells-keep
-returns-then-not-cells-keep g c =
-    no_decides λ rules. told_no _ c.cells-keep.ensures c.if-not-cells-keep.true rules.parts
+pub returns-then-not-cells_keep : goal.returns-then-not-cells_keep
+returns-then-not-cells_keep g c =
+    no_decides λ rules. told_no _ c.cells_keep.ensures c.if-not-cells_keep.true rules.parts
 
 pub returns : goal.returns
 returns g c =
@@ -24,7 +24,7 @@ returns g c =
     record {
       some_part = omega arith;
       few_parts = omega arith;
-      parts = told_yes _ c.cells-keep.ensures c.if-not-cells-keep.false;
+      parts = told_yes _ c.cells_keep.ensures c.if-not-cells_keep.false;
       head = h.0;
       few_goals = h.1;
       goals = h.2;

@@ -6,4 +6,4 @@ pub returns-in-Some : goal.returns-in-Some
 returns-in-Some c =
     let s = c.in-Some.ensures in
     let P = AllByRecursion (λ n. n < c.args.place) in
-    ((λ t. (omega arith, s.0, subst P s.1 (c.all-below.ensures.0 t))), λ h. c.all-below.ensures.1 (subst P (sym s.1) h.2))
+    ((λ t. (omega arith, s.0, subst P s.1 (c.all_below.ensures.0 t))), λ h. c.all_below.ensures.1 (subst P (sym s.1) h.2))

@@ -20,7 +20,7 @@ loop-next-preserved g c =
 -- src/lib.rt:42:1
 pub returns : goal.returns
 returns g c = record {
-  is = sym (root_none (cells_of c.args.cells.now) c.loop-next.at (sym c.in-default.ensures))
+  is = sym (root_none (cells_of c.args.cells.now) c.loop-next.at (sym c.in_default.ensures))
       ∙ c.loop-next.invariant.1;
   inside = c.loop-next.invariant.0;
 }

@@ -7,13 +7,13 @@ pub returns : goal.returns
 unfolding link
 returns g c = record {
   is = λ place k. record {
-    cells = c.join-to.ensures.is k;
+    cells = c.join_to.ensures.is k;
     trail = take_more_set c.args.trail.now
         c.args.used.now c.args.high c.requires.room k;
     place = place;
   };
-  counted = c.join-to.ensures.counted;
+  counted = c.join_to.ensures.counted;
   one_more = refl;
-  as_many = c.join-to.ensures.as_many;
+  as_many = c.join_to.ensures.as_many;
   as_long = length-set _ _ _;
 }

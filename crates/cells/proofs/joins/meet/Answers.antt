@@ -55,8 +55,8 @@ rank-n-requires g c = record {
   counted = c.requires.ready.counted;
 }
 
-pub link-down-requires : goal.link-down-requires
-link-down-requires g c = record {
+pub link_down-requires : goal.link_down-requires
+link_down-requires g c = record {
   inside = c.root-t.ensures.inside;
   counted = c.requires.ready.counted;
   room =
@@ -64,8 +64,8 @@ link-down-requires g c = record {
       c.root-t.ensures.inside;
 }
 
-pub link-down-requires-else-m-n : goal.link-down-requires-else-m-n
-link-down-requires-else-m-n g c = record {
+pub link_down-requires-else-m-n : goal.link_down-requires-else-m-n
+link_down-requires-else-m-n g c = record {
   inside = c.root-r.ensures.inside;
   counted = c.requires.ready.counted;
   room = room _ _ _ c.requires.ready c.args.x c.root-r.result c.root-r.ensures.is
@@ -99,11 +99,11 @@ returns-then-m-n g c =
 
 pub returns-else-m-n : goal.returns-else-m-n
 returns-else-m-n g c =
-    let is : (place : ℕ) → went (state c.link-down-else-m-n.new.cells c.link-down-else-m-n.new.trail
-    c.link-down-else-m-n.new.used place) ≡
+    let is : (place : ℕ) → went (state c.link_down-else-m-n.new.cells c.link_down-else-m-n.new.trail
+    c.link_down-else-m-n.new.used place) ≡
     meet g.L.Leaf.alike c.args.open_joins (state c.args.cells.now c.args.trail.now
     c.args.used.now place) c.args.x c.args.y =
-    λ place. ap went (c.link-down-else-m-n.ensures.is place) ∙ meet_down g.L.Leaf.alike c.args.open_joins
+    λ place. ap went (c.link_down-else-m-n.ensures.is place) ∙ meet_down g.L.Leaf.alike c.args.open_joins
     (state c.args.cells.now c.args.trail.now c.args.used.now place) c.args.x c.args.y
     c.root-r.result c.root-t.result c.root-r.ensures.is c.root-t.ensures.is c.if-r-t.false
     (fit_at g.L.Leaf.alike c.args.open_joins _ _ _ _ true c.written-c.ensures.is
@@ -113,16 +113,16 @@ returns-else-m-n g c =
       is = is;
       ready = ready_met g.L.Leaf.alike c.args.open_joins c.args.cells.now c.args.trail.now
           c.args.used.now c.requires.ready c.args.x c.args.y
-          c.requires.first c.requires.second true c.link-down-else-m-n.new.cells
-          c.link-down-else-m-n.new.trail c.link-down-else-m-n.new.used (is 0)
-          c.link-down-else-m-n.ensures.counted
-          c.link-down-else-m-n.ensures.as_long (let h : c.args.used.now < length c.args.trail.now = room
+          c.requires.first c.requires.second true c.link_down-else-m-n.new.cells
+          c.link_down-else-m-n.new.trail c.link_down-else-m-n.new.used (is 0)
+          c.link_down-else-m-n.ensures.counted
+          c.link_down-else-m-n.ensures.as_long (let h : c.args.used.now < length c.args.trail.now = room
           _ _ _ c.requires.ready c.args.x c.root-r.result c.root-r.ensures.is
           c.root-r.ensures.inside in omega (
             arith,
-            c.link-down-else-m-n.ensures.one_more,
-            c.link-down-else-m-n.ensures.as_long,
+            c.link_down-else-m-n.ensures.one_more,
+            c.link_down-else-m-n.ensures.as_long,
           ));
-      as_many = c.link-down-else-m-n.ensures.as_many;
-      as_long = c.link-down-else-m-n.ensures.as_long;
+      as_many = c.link_down-else-m-n.ensures.as_many;
+      as_long = c.link_down-else-m-n.ensures.as_long;
     }

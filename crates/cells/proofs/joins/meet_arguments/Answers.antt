@@ -5,8 +5,8 @@ use Rattle.cells.specs.Loops.{state}
 use Rattle.cells.proofs.Steps.{node_inside, arguments_read, no_first, no_second}
 use Rattle.cells.proofs.joins.meet_arguments.Goals as goal
 
-pub meet-all-requires : goal.meet-all-requires
-meet-all-requires g c = record {
+pub meet_all-requires : goal.meet_all-requires
+meet_all-requires g c = record {
   ready = c.requires.ready;
   first = node_inside c.args.cells.now c.args.trail.now c.args.used.now c.requires.ready
       g.L.Leaf.alike c.args.open_joins c.args.i c.in-Node.symbol c.in-Node.m c.in-Node.xs
@@ -19,21 +19,21 @@ meet-all-requires g c = record {
 pub returns : goal.returns
 unfolding meet_arguments
 returns g c = record {
-  is = λ place. c.meet-all.ensures.is place
+  is = λ place. c.meet_all.ensures.is place
       ∙ arguments_read g.L.Leaf.alike c.args.open_joins (state c.args.cells.now c.args.trail.now
       c.args.used.now place) c.args.i c.args.j
       c.written-c.result (Node c.in-Node.symbol c.in-Node.xs c.in-Node.m) c.written-d.result
       (Node c.in-Node-d.symbol c.in-Node-d.ys c.in-Node-d.n)
       c.written-c.ensures.is c.written-d.ensures.is c.in-Node.is c.in-Node-d.is;
-  ready = c.meet-all.ensures.ready;
-  as_many = c.meet-all.ensures.as_many;
-  as_long = c.meet-all.ensures.as_long;
+  ready = c.meet_all.ensures.ready;
+  as_many = c.meet_all.ensures.as_many;
+  as_long = c.meet_all.ensures.as_long;
 }
 
-pub returns-in-default : goal.returns-in-default
-returns-in-default g c = record {
+pub returns-in_default : goal.returns-in_default
+returns-in_default g c = record {
   is = λ place. no_first g.L.Leaf.alike c.args.open_joins (state c.args.cells.now c.args.trail.now
-      c.args.used.now place) c.written-c.result _ c.in-default.not-Node
+      c.args.used.now place) c.written-c.result _ c.in_default.not-Node
       ∙ arguments_read g.L.Leaf.alike c.args.open_joins (state c.args.cells.now c.args.trail.now
       c.args.used.now place) c.args.i c.args.j
       c.written-c.result c.written-c.result c.written-d.result c.written-d.result
@@ -43,10 +43,10 @@ returns-in-default g c = record {
   as_long = refl;
 }
 
-pub returns-in-default-d : goal.returns-in-default-d
-returns-in-default-d g c = record {
+pub returns-in_default-d : goal.returns-in_default-d
+returns-in_default-d g c = record {
   is = λ place. no_second g.L.Leaf.alike c.args.open_joins (state c.args.cells.now c.args.trail.now
-      c.args.used.now place) c.written-c.result c.written-d.result c.in-default-d.not-Node
+      c.args.used.now place) c.written-c.result c.written-d.result c.in_default-d.not-Node
       ∙ arguments_read g.L.Leaf.alike c.args.open_joins (state c.args.cells.now c.args.trail.now
       c.args.used.now place) c.args.i c.args.j
       c.written-c.result c.written-c.result c.written-d.result c.written-d.result

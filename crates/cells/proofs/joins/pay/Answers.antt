@@ -3,8 +3,8 @@ use Rattle.cells.specs.Loops.{state}
 use Rattle.cells.proofs.Steps.{joined_inside, paying, not_paying}
 use Rattle.cells.proofs.joins.pay.Goals as goal
 
-pub meet-arguments-requires : goal.meet-arguments-requires
-meet-arguments-requires g c = record {
+pub meet_arguments-requires : goal.meet_arguments-requires
+meet_arguments-requires g c = record {
   ready = c.requires.ready;
   first = c.requires.inside;
   second = joined_inside _ _ _ c.requires.ready c.args.i c.in-Some.j c.requires.inside c.in-Some.ensures;

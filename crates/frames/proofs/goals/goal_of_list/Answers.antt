@@ -8,17 +8,17 @@ use Rattle.frames.proofs.goals.goal_of_list.Goals as goal
 goal' : ℕ → ℕ → Goal
 goal' j c = record { cell = c; inner = false; parent = None; place = j }
 
-pub returns-in-err-cell : goal.returns-in-err-cell
+pub returns-in_err-cell : goal.returns-in_err-cell
 unfolding goal'
-returns-in-err-cell c =
-    let h = c.in-err-cell.ensures.lookup in
-    c.from-residual.ensures
+returns-in_err-cell c =
+    let h = c.in_err-cell.ensures.lookup in
+    c.from_residual.ensures
     ∙ sym (ap (option_map (goal' c.args.place)) (slice_get_past c.args.goals.now c.args.place h.3))
 
 pub returns : goal.returns
 unfolding goal'
 returns c =
-    let h = c.in-ok-cell.ensures.lookup in
-    let x = c.in-ok-cell.field-0.now in
+    let h = c.in_ok-cell.ensures.lookup in
+    let x = c.in_ok-cell.field-0.now in
     sym (ap (option_map (goal' c.args.place)) (slice_get-get_or c.args.goals.now c.args.place x h.3.0)
     ∙ ap (λ y. Some (goal' c.args.place y)) (sym h.1))

@@ -16,16 +16,16 @@ bounds-frames-step g c =
     (subst (λ p. Pending book c.args.goals.now c.args.frames.now p c.loop-parent.at) c.in-Some.is
     c.loop-parent.invariant.0)).0
 
-pub goal-of-step-requires : goal.goal-of-step-requires
-goal-of-step-requires g c =
+pub goal_of_step-requires : goal.goal_of_step-requires
+goal_of_step-requires g c =
     let book = g.B.Book.entries c.args.book.now in
     (frame_at book (g.B.Book.rules c.args.book.now) c.args.goals.now c.args.frames.now c.in-Some.step
     c.loop-parent.at
     (subst (λ p. Pending book c.args.goals.now c.args.frames.now p c.loop-parent.at) c.in-Some.is
     c.loop-parent.invariant.0)).2.small
 
-pub returns-in-Some-goal-of-step : goal.returns-in-Some-goal-of-step
-returns-in-Some-goal-of-step g c chain l p =
+pub returns-in-Some-goal_of_step : goal.returns-in-Some-goal_of_step
+returns-in-Some-goal_of_step g c chain l p =
     let book = g.B.Book.entries c.args.book.now in
     let rules = g.B.Book.rules c.args.book.now in
     let goals = c.args.goals.now in
@@ -38,10 +38,10 @@ returns-in-Some-goal-of-step g c chain l p =
     (subst (λ q. Pends book goals frames w.0 q c.loop-parent.at l) here w.1)
     (get_or frames c.in-Some.step unset) z.1 c.args.from
     (subst (λ q. above q ≤ above c.args.from) here c.loop-parent.invariant.1)
-    c.in-Some-goal-of-step.goal c.in-Some-goal-of-step.ensures
+    c.in-Some-goal_of_step.goal c.in-Some-goal_of_step.ensures
 
-pub overflow-add-at : goal.overflow-add-at
-overflow-add-at g c =
+pub overflow_add-at : goal.overflow_add-at
+overflow_add-at g c =
     let book = g.B.Book.entries c.args.book.now in
     let h = (frame_at book (g.B.Book.rules c.args.book.now) c.args.goals.now c.args.frames.now
     c.in-Some.step c.loop-parent.at
@@ -77,7 +77,7 @@ loop-parent-preserved g c =
     (chain' : List ℕ) × Pends book goals frames chain' f.goal.parent (f.goal.place + 1) l =
     λ chain l q.
     let w = onward book rules goals frames chain c.in-Some.step j l
-    (subst (λ p. Pends book goals frames chain p j l) here q) f z.1 c.in-default-goal-of-step.ensures in
+    (subst (λ p. Pends book goals frames chain p j l) here q) f z.1 c.in_default-goal_of_step.ensures in
     (w.0, subst (λ k. Pends book goals frames w.0 f.goal.parent k l) (sym (add-one f.goal.place)) w.1) in
     let p = c.loop-parent.invariant.0 in
     let q = on p.0 p.1 p.3 in (
@@ -92,7 +92,7 @@ returns g c chain l p =
     let goals = c.args.goals.now in
     let frames = c.args.frames.now in
     let w = c.loop-parent.invariant.2 chain l p in
-    subst (λ r. First book goals frames c.args.from r l) (sym c.goal-of-list.ensures)
+    subst (λ r. First book goals frames c.args.from r l) (sym c.goal_of_list.ensures)
     (last_goals book (g.B.Book.rules c.args.book.now) goals frames w.0 c.loop-parent.at l
     c.loop-parent.invariant.0.2
-    (subst (λ q. Pends book goals frames w.0 q c.loop-parent.at l) c.in-default.is w.1) c.args.from)
+    (subst (λ q. Pends book goals frames w.0 q c.loop-parent.at l) c.in_default.is w.1) c.args.from)

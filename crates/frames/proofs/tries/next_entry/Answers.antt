@@ -3,13 +3,13 @@ use Rattle.std.specs.List.{slice_get}
 use Rattle.frames.specs.Tries.{entries_left, IsClause, NextEntry}
 use Rattle.frames.proofs.Entering.{none_left, first_inner, first_clause, one_over, small}
 use Rattle.frames.proofs.tries.next_entry.Goals as goal
-use Rattle.frames.proofs.tries.next_entry.Goals.{then-inner-via-then-inner, then-inner-via-else-inner+then-is-clause}
+use Rattle.frames.proofs.tries.next_entry.Goals.{then-inner-via-then-inner, then-inner-via-else-inner+then-is_clause}
 
 pub loop-k-init : goal.loop-k-init
 loop-k-init g c = refl
 
-pub overflow-cast-result : goal.overflow-cast-result
-overflow-cast-result g c =
+pub overflow_cast-result : goal.overflow_cast-result
+overflow_cast-result g c =
     let book = g.B.Book.entries c.args.book.now in
     let h : c.loop-k.k < length book = omega (arith, c.loop-k-test.true, c.len-k-end.ensures) in
     let k : c.loop-k.k < 65536 = small book (g.B.Book.rules c.args.book.now) c.loop-k.k h in
@@ -23,16 +23,16 @@ returns-then-inner g c =
     elim c.then-inner.branch [
       | then-inner-via-then-inner w ↦
           first_inner book rules c.args.inner c.args.from c.loop-k.k c.loop-k.invariant w.if-inner.true h
-      | then-inner-via-else-inner+then-is-clause w ↦
+      | then-inner-via-else-inner+then-is_clause w ↦
           first_clause book rules c.args.inner c.args.from c.loop-k.k c.loop-k.invariant w.if-inner.false
-          w.if-is-clause.ensures
+          w.if-is_clause.ensures
     ]
 
 pub loop-k-preserved : goal.loop-k-preserved
 loop-k-preserved g c =
     let book = g.B.Book.entries c.args.book.now in
     one_over book c.args.inner c.args.from c.loop-k.k c.loop-k.invariant c.if-inner.false
-    (omega (arith, c.loop-k-test.true, c.len-k-end.ensures)) c.if-is-clause.ensures
+    (omega (arith, c.loop-k-test.true, c.len-k-end.ensures)) c.if-is_clause.ensures
 
 pub returns : goal.returns
 returns g c =

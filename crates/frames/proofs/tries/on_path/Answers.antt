@@ -46,4 +46,4 @@ loop-next-preserved c =
 pub returns : goal.returns
 returns c chain p =
     let w = c.loop-next.invariant.1 chain p in
-    path_end c.args.frames.now w.0 c.loop-next.next c.args.number c.in-default.is w.1 ∙ w.2
+    path_end c.args.frames.now w.0 c.loop-next.next c.args.number c.in_default.is w.1 ∙ w.2

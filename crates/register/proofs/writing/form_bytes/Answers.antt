@@ -12,5 +12,5 @@ returns g c =
     let laws = g.met.L.WireLeaf in
     let es = g.B.Book.entries c.args.book.now in
     let wrote = c.in-Ok.ensures in
-    ap (meaning leaf.wide leaf.reading) (c.in-ok-from-slice.ensures.items ∙ filled _ _ (book_form leaf.written es) c.in-Ok.count wrote.1)
+    ap (meaning leaf.wide leaf.reading) (c.in_ok-from_slice.ensures.items ∙ filled _ _ (book_form leaf.written es) c.in-Ok.count wrote.1)
     ∙ read_back leaf.wide leaf.written leaf.reading laws.narrow.1 laws.even laws.rereads es (kept (g.B.Book.rules c.args.book.now)) wrote.0

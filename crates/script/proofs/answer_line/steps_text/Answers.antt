@@ -9,9 +9,9 @@ use Rattle.script.proofs.answer_line.steps_text.Goals as goal
 pub loop-step-preserved : goal.loop-step-preserved
 loop-step-preserved c =
     one_step_more c.args.steps.now c.loop-step.step-index record { mode = 0; number = 0 }
-    (string_bytes c.loop-step.text) c.as-str.result.now (string_bytes c.push-str.new.self)
-    c.loop-step-test.true c.loop-step.invariant (c.as-str.ensures.value ∙ c.in-ok-next.ensures)
-    (pushed c.as-str.result.now refl c.in-ok-push-str.was c.push-str.ensures.bytes)
+    (string_bytes c.loop-step.text) c.as_str.result.now (string_bytes c.push_str.new.self)
+    c.loop-step-test.true c.loop-step.invariant (c.as_str.ensures.value ∙ c.in_ok-next.ensures)
+    (pushed c.as_str.result.now refl c.in_ok-push_str.was c.push_str.ensures.bytes)
 
 pub returns : goal.returns
 returns c =

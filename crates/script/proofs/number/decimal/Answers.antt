@@ -35,4 +35,4 @@ pub returns : goal.returns
 returns c =
     let l = c.loop-byte in
     all_read c.args.word.now l.byte-index l.value l.invariant.1 c.args.most (omega arith)
-    (omega (arith, eqb-false, sym c.if-is-empty.ensures)) l.invariant.0
+    (omega (arith, eqb-false, sym c.if-is_empty.ensures)) l.invariant.0

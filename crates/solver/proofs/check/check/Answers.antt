@@ -15,18 +15,18 @@ use Rattle.solver.specs.Runs.{Ready}
 use Rattle.solver.specs.Checking.{passes_or, bounds_of}
 use Rattle.solver.proofs.Checked.{long_kept, refused_kept, replayed_kept, over_slate, ready_for}
 use Rattle.solver.proofs.check.check.Goals as goal
-use Rattle.solver.proofs.check.check.Goals.{then-goals-gt-MOST-GOALS-via-then-goals-gt-MOST-GOALS}
-use Rattle.solver.proofs.check.check.Goals.{then-goals-gt-MOST-GOALS-via-else-goals-gt-MOST-GOALS+then-record-gt-MOST-STEPS}
+use Rattle.solver.proofs.check.check.Goals.{then-goals-gt-MOST_GOALS-via-then-goals-gt-MOST_GOALS}
+use Rattle.solver.proofs.check.check.Goals.{then-goals-gt-MOST_GOALS-via-else-goals-gt-MOST_GOALS+then-record-gt-MOST_STEPS}
 
-pub returns-then-goals-gt-MOST-GOALS : goal.returns-then-goals-gt-MOST-GOALS
-returns-then-goals-gt-MOST-GOALS g c = record {
+pub returns-then-goals-gt-MOST_GOALS : goal.returns-then-goals-gt-MOST_GOALS
+returns-then-goals-gt-MOST_GOALS g c = record {
   kept =
       long_kept (Coded-set g.row.L.coded) g.L.Leaf.alike (decided g.L.Leaf.alike g.met.L.Leaf.decides)
       (g.B.Book.entries c.args.book.now) (g.B.Book.rules c.args.book.now) c.args.slate.now
       c.args.goals.now c.args.record.now (length c.args.work.now) (length c.args.frames.now)
-      (elim c.then-goals-gt-MOST-GOALS.branch [
-        | then-goals-gt-MOST-GOALS-via-then-goals-gt-MOST-GOALS w ↦ inl w.if-goals-gt-MOST-GOALS.true
-        | then-goals-gt-MOST-GOALS-via-else-goals-gt-MOST-GOALS+then-record-gt-MOST-STEPS w ↦ inr w.if-record-gt-MOST-STEPS.true
+      (elim c.then-goals-gt-MOST_GOALS.branch [
+        | then-goals-gt-MOST_GOALS-via-then-goals-gt-MOST_GOALS w ↦ inl w.if-goals-gt-MOST_GOALS.true
+        | then-goals-gt-MOST_GOALS-via-else-goals-gt-MOST_GOALS+then-record-gt-MOST_STEPS w ↦ inr w.if-record-gt-MOST_STEPS.true
       ]);
   unaltered = refl;
 }
@@ -35,16 +35,16 @@ pub admit-requires : goal.admit-requires
 admit-requires g c =
     let s = c.args.slate.now in
     record {
-      part = subst (λ l. s.used ≤ length l) (sym c.as-slice.ensures.value) (part_of (Coded-set g.row.L.coded) s);
-      sound = subst (λ l. WellFormed (take s.used l)) (sym c.as-slice.ensures.value)
+      part = subst (λ l. s.used ≤ length l) (sym c.as_slice.ensures.value) (part_of (Coded-set g.row.L.coded) s);
+      sound = subst (λ l. WellFormed (take s.used l)) (sym c.as_slice.ensures.value)
           (sound_of (Coded-set g.row.L.coded) s);
     }
 
-pub returns-in-err-admit : goal.returns-in-err-admit
-returns-in-err-admit g c =
+pub returns-in_err-admit : goal.returns-in_err-admit
+returns-in_err-admit g c =
     let s = c.args.slate.now in
-    let p = err_from_is_err_and c.from-residual.result c.from-residual.ensures.1 in
-    let e : c.from-residual.result ≡ Err c.in-err-admit.field-0.0 = cc (p.1, p.2) in
+    let p = err_from_is_err_and c.from_residual.result c.from_residual.ensures.1 in
+    let e : c.from_residual.result ≡ Err c.in_err-admit.field-0.0 = cc (p.1, p.2) in
     record {
       kept = subst (λ r. KeptOver (g.B.Book.entries c.args.book.now) s s
           (check c.args.goals.now (steps_of c.args.record.now) (length c.args.work.now)
@@ -52,43 +52,43 @@ returns-in-err-admit g c =
           (refused_kept (Coded-set g.row.L.coded) g.L.Leaf.alike (decided g.L.Leaf.alike g.met.L.Leaf.decides)
           (g.B.Book.entries c.args.book.now) (g.B.Book.rules c.args.book.now) s
           c.args.goals.now c.args.record.now (length c.args.work.now) (length c.args.frames.now)
-          c.if-goals-gt-MOST-GOALS.false c.if-record-gt-MOST-STEPS.false c.in-err-admit.field-0.0
-          (over_slate {U = Unit {0}} s c.as-slice.result.now c.as-slice.ensures.value c.args.goals.now
+          c.if-goals-gt-MOST_GOALS.false c.if-record-gt-MOST_STEPS.false c.in_err-admit.field-0.0
+          (over_slate {U = Unit {0}} s c.as_slice.result.now c.as_slice.ensures.value c.args.goals.now
           (length c.args.work.now) (length c.args.frames.now) (length c.args.record.now) (Err _)
-          c.in-err-admit.ensures));
+          c.in_err-admit.ensures));
       unaltered = refl;
     }
 
-pub replay-and-retract-requires : goal.replay-and-retract-requires
-replay-and-retract-requires g c =
+pub replay_and_retract-requires : goal.replay_and_retract-requires
+replay_and_retract-requires g c =
     let s = c.args.slate.now in
     let ok : Admitted (in_use s) s.used (vec_len s.cells) c.args.goals.now (length c.args.work.now)
     (length c.args.frames.now) (length c.args.record.now) =
-    over_slate {U = Unit {0}} s c.as-slice.result.now c.as-slice.ensures.value c.args.goals.now
+    over_slate {U = Unit {0}} s c.as_slice.result.now c.as_slice.ensures.value c.args.goals.now
     (length c.args.work.now) (length c.args.frames.now) (length c.args.record.now) (Ok (tt {0}))
-    c.in-ok-admit.ensures in
+    c.in_ok-admit.ensures in
     let room : c.min-room.result ≡ capacity (vec_len s.cells) =
     c.min-room.ensures ∙ ap (λ k. min k 2048) c.len.ensures in
     subst (λ k. Ready c.args.goals.now (bounds_of (length c.args.record.now) k s.used)
-    c.as-mut-slice.result.now c.args.work.now c.args.frames.now) (sym room)
+    c.as_mut_slice.result.now c.args.work.now c.args.frames.now) (sym room)
     (subst (λ l. Ready c.args.goals.now
     (bounds_of (length c.args.record.now) (capacity (vec_len s.cells)) s.used) l c.args.work.now
-    c.args.frames.now) (sym c.as-mut-slice.ensures.value)
+    c.args.frames.now) (sym c.as_mut_slice.ensures.value)
     (ready_for s c.args.goals.now c.args.record.now c.args.work.now c.args.frames.now
-    c.if-goals-gt-MOST-GOALS.false c.if-record-gt-MOST-STEPS.false ok (sound_of (Coded-set g.row.L.coded) s)))
+    c.if-goals-gt-MOST_GOALS.false c.if-record-gt-MOST_STEPS.false ok (sound_of (Coded-set g.row.L.coded) s)))
 
-pub invariant-of-slate : goal.invariant-of-slate
-invariant-of-slate g c =
+pub invariant_of-slate : goal.invariant_of-slate
+invariant_of-slate g c =
     let s = c.args.slate.now in
-    let ws = c.replay-and-retract.new.cells in (
+    let ws = c.replay_and_retract.new.cells in (
       s.within,
       (
         s.few,
         (
           ∣ subst (λ l. WellFormed (take s.used l))
               (sym (refill (vec_len s.cells) (vec_items s.cells) ws s.cells.ok.0
-              (c.replay-and-retract.ensures.as_many ∙ ap length c.as-mut-slice.ensures.value)))
-              c.replay-and-retract.ensures.sound ∣₁,
+              (c.replay_and_retract.ensures.as_many ∙ ap length c.as_mut_slice.ensures.value)))
+              c.replay_and_retract.ensures.sound ∣₁,
           tt,
         ),
       ),
@@ -99,30 +99,30 @@ returns g c =
     let s = c.args.slate.now in
     let alike = g.L.Leaf.alike in
     let book = g.B.Book.entries c.args.book.now in
-    let ws = c.replay-and-retract.new.cells in
+    let ws = c.replay_and_retract.new.cells in
     let left : cells_of (take s.used (take (vec_len s.cells) (ws ++ drop (length ws) (vec_items s.cells)))) ≡
     cells_of (take s.used (vec_items s.cells)) =
     ap (λ l. cells_of (take s.used l)) (refill (vec_len s.cells) (vec_items s.cells) ws s.cells.ok.0
-    (c.replay-and-retract.ensures.as_many ∙ ap length c.as-mut-slice.ensures.value))
-    ∙ (c.replay-and-retract.ensures.left ∙ ap (λ l. cells_of (take s.used l)) c.as-mut-slice.ensures.value) in
+    (c.replay_and_retract.ensures.as_many ∙ ap length c.as_mut_slice.ensures.value))
+    ∙ (c.replay_and_retract.ensures.left ∙ ap (λ l. cells_of (take s.used l)) c.as_mut_slice.ensures.value) in
     let room : c.min-room.result ≡ capacity (vec_len s.cells) =
     c.min-room.ensures ∙ ap (λ k. min k 2048) c.len.ensures in
     let ok : Admitted (in_use s) s.used (vec_len s.cells) c.args.goals.now (length c.args.work.now)
     (length c.args.frames.now) (length c.args.record.now) =
-    over_slate {U = Unit {0}} s c.as-slice.result.now c.as-slice.ensures.value c.args.goals.now
+    over_slate {U = Unit {0}} s c.as_slice.result.now c.as_slice.ensures.value c.args.goals.now
     (length c.args.work.now) (length c.args.frames.now) (length c.args.record.now) (Ok (tt {0}))
-    c.in-ok-admit.ensures in
+    c.in_ok-admit.ensures in
     record {
       kept =
           replayed_kept (Coded-set g.row.L.coded) alike (decided alike g.met.L.Leaf.decides) book
           (g.B.Book.rules c.args.book.now) s c.args.goals.now c.args.record.now
-          (length c.args.work.now) (length c.args.frames.now) c.if-goals-gt-MOST-GOALS.false
-          c.if-record-gt-MOST-STEPS.false s.used ok _ (passes_or c.replay-and-retract.result)
-          (c.replay-and-retract.ensures.answer
+          (length c.args.work.now) (length c.args.frames.now) c.if-goals-gt-MOST_GOALS.false
+          c.if-record-gt-MOST_STEPS.false s.used ok _ (passes_or c.replay_and_retract.result)
+          (c.replay_and_retract.ensures.answer
           ∙ ap (λ k. answer_to (checks alike book s.used (k - s.used)
-          (cells_of (take s.used c.as-mut-slice.result.now)) c.args.goals.now (steps_of c.args.record.now))) room
+          (cells_of (take s.used c.as_mut_slice.result.now)) c.args.goals.now (steps_of c.args.record.now))) room
           ∙ ap (λ l. answer_to (checks alike book s.used (capacity (vec_len s.cells) - s.used)
-          (cells_of (take s.used l)) c.args.goals.now (steps_of c.args.record.now))) c.as-mut-slice.ensures.value)
+          (cells_of (take s.used l)) c.args.goals.now (steps_of c.args.record.now))) c.as_mut_slice.ensures.value)
           left refl;
       unaltered = left;
     }

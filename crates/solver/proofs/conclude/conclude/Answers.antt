@@ -3,5 +3,5 @@ use Rattle.solver.proofs.conclude.conclude.Goals as goal
 
 pub returns-in-Granted : goal.returns-in-Granted
 returns-in-Granted c =
-    granted_record c.args.end c.args.frames.now c.args.steps.now c.write-record.new.steps c.in-Granted.is
-    c.requires.room c.requires.framed c.write-record.ensures
+    granted_record c.args.end c.args.frames.now c.args.steps.now c.write_record.new.steps c.in-Granted.is
+    c.requires.room c.requires.framed c.write_record.ensures

@@ -3,27 +3,27 @@ use Rattle.cells.specs.Cells.{cells_of}
 use Rattle.solver.proofs.Admitting.{all_at, one_atom, no_atom, none_left}
 use Rattle.solver.proofs.input.all_atoms.Goals as goal
 
-pub node-at-root-requires : goal.node-at-root-requires
-node-at-root-requires g c = record {
+pub node_at_root-requires : goal.node_at_root-requires
+node_at_root-requires g c = record {
   part = c.requires.part;
   sound = c.requires.sound;
   inside = all_at (λ i. i < c.args.used) c.args.goals.now c.loop-goal.goal-index c.requires.inside
       c.loop-goal-test.true;
 }
 
-pub returns-then-not-node-at-root : goal.returns-then-not-node-at-root
-returns-then-not-node-at-root g c = (
+pub returns-then-not-node_at_root : goal.returns-then-not-node_at_root
+returns-then-not-node_at_root g c = (
   _,
   refl,
   sym c.loop-goal.invariant
       ∙ no_atom (cells_of (take c.args.used c.args.cells.now)) c.args.goals.now c.loop-goal.goal-index
-      c.loop-goal-test.true c.if-not-node-at-root.ensures,
+      c.loop-goal-test.true c.if-not-node_at_root.ensures,
 )
 
 pub loop-goal-preserved : goal.loop-goal-preserved
 loop-goal-preserved g c =
     one_atom (cells_of (take c.args.used c.args.cells.now)) c.args.goals.now c.loop-goal.goal-index
-    c.loop-goal-test.true c.if-not-node-at-root.ensures ∙ c.loop-goal.invariant
+    c.loop-goal-test.true c.if-not-node_at_root.ensures ∙ c.loop-goal.invariant
 
 pub returns : goal.returns
 returns g c =

@@ -25,7 +25,7 @@ pub returns-in-Node : goal.returns-in-Node
 returns-in-Node g c =
     made_kept (g.B.Book.entries c.args.book.now) (g.B.Book.rules c.args.book.now) c.args.slate.now
     c.node.new.self _ _ (wrote_or c.node.result)
-    (ap (write_node c.in-Node.symbol) c.as-slice.ensures.value
+    (ap (write_node c.in-Node.symbol) c.as_slice.ensures.value
     ∙ sym (ap (lent (length c.args.steps.now) (length c.args.work.now) (length c.args.frames.now)) c.in-Node.is))
     c.wrote-in-Node.result c.node.ensures c.wrote-in-Node.ensures
 
@@ -51,7 +51,7 @@ pub returns-in-Check : goal.returns-in-Check
 returns-in-Check g c =
     made_over (g.B.Book.entries c.args.book.now) (g.B.Book.rules c.args.book.now) c.args.slate.now
     c.check-result.new.slate _ _ (passes_or c.check-result.result)
-    ((λ i. check (c.as-slice-in-Check.ensures.value i) (steps_of (c.as-slice-in-Check-2.ensures.value i))
+    ((λ i. check (c.as_slice-in-Check.ensures.value i) (steps_of (c.as_slice-in-Check-2.ensures.value i))
     (lent_length c.in-Check.n c.min-n-in-Check.result c.args.work.now c.min-n-in-Check.ensures i)
     (lent_length c.in-Check.m c.min-m-in-Check.result c.args.frames.now c.min-m-in-Check.ensures i))
     ∙ sym (ap (lent (length c.args.steps.now) (length c.args.work.now) (length c.args.frames.now)) c.in-Check.is))

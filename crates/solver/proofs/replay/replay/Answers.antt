@@ -22,8 +22,8 @@ loop-i-init g c = (
       c.requires.begun,
 )
 
-pub returns-in-default : goal.returns-in-default
-returns-in-default g c =
+pub returns-in_default : goal.returns-in_default
+returns-in_default g c =
     none_pending g.L.Leaf.alike (decided g.L.Leaf.alike g.met.L.Leaf.decides) (g.B.Book.entries c.args.book.now)
     (g.B.Book.rules c.args.book.now) c.args.goals.now
     (bounds_of (length c.args.record.now) c.args.room c.args.at.now.extent.used)
@@ -35,10 +35,10 @@ returns-in-default g c =
     c.loop-i.cells c.loop-i.work c.loop-i.frames c.loop-i.at
     (steps_of (drop c.loop-i.i c.args.record.now)) c.loop-i.invariant.1 c.loop-i.i c.loop-i.invariant.0
     (get_or c.args.record.now c.loop-i.i blank) (steps_of (drop (c.loop-i.i + 1) c.args.record.now))
-    (next_step c.args.record.now c.loop-i.i blank c.loop-i-test.true) c.in-default.is
+    (next_step c.args.record.now c.loop-i.i blank c.loop-i-test.true) c.in_default.is
 
-pub broken-rule-requires : goal.broken-rule-requires
-broken-rule-requires g c =
+pub broken_rule-requires : goal.broken_rule-requires
+broken_rule-requires g c =
     chained g.L.Leaf.alike (decided g.L.Leaf.alike g.met.L.Leaf.decides) (g.B.Book.entries c.args.book.now)
     (g.B.Book.rules c.args.book.now) c.args.goals.now
     (bounds_of (length c.args.record.now) c.args.room c.args.at.now.extent.used)
@@ -52,8 +52,8 @@ broken-rule-requires g c =
     (get_or c.args.record.now c.loop-i.i blank) (steps_of (drop (c.loop-i.i + 1) c.args.record.now))
     (next_step c.args.record.now c.loop-i.i blank c.loop-i-test.true) c.in-Some.goal c.in-Some.is
 
-pub returns-in-Some-broken-rule : goal.returns-in-Some-broken-rule
-returns-in-Some-broken-rule g c =
+pub returns-in-Some-broken_rule : goal.returns-in-Some-broken_rule
+returns-in-Some-broken_rule g c =
     bad_form g.L.Leaf.alike (decided g.L.Leaf.alike g.met.L.Leaf.decides) (g.B.Book.entries c.args.book.now)
     (g.B.Book.rules c.args.book.now) c.args.goals.now
     (bounds_of (length c.args.record.now) c.args.room c.args.at.now.extent.used)
@@ -66,7 +66,7 @@ returns-in-Some-broken-rule g c =
     (steps_of (drop c.loop-i.i c.args.record.now)) c.loop-i.invariant.1 c.loop-i.i c.loop-i.invariant.0
     (get_or c.args.record.now c.loop-i.i blank) (steps_of (drop (c.loop-i.i + 1) c.args.record.now))
     (next_step c.args.record.now c.loop-i.i blank c.loop-i-test.true) c.in-Some.goal c.in-Some.is
-    c.in-Some-broken-rule.rule c.in-Some-broken-rule.ensures
+    c.in-Some-broken_rule.rule c.in-Some-broken_rule.ensures
 
 pub returns-then-room-at : goal.returns-then-room-at
 returns-then-room-at g c =
@@ -81,11 +81,11 @@ returns-then-room-at g c =
     c.loop-i.cells c.loop-i.work c.loop-i.frames c.loop-i.at
     (steps_of (drop c.loop-i.i c.args.record.now)) c.loop-i.invariant.1 c.loop-i.i c.loop-i.invariant.0
     (get_or c.args.record.now c.loop-i.i blank) (steps_of (drop (c.loop-i.i + 1) c.args.record.now))
-    (next_step c.args.record.now c.loop-i.i blank c.loop-i-test.true) c.in-Some.goal c.in-Some.is c.in-default-broken-rule.ensures
-    (subst (λ k. c.args.room - c.loop-i.at.extent.used < k) c.cells-needed.ensures c.if-room-at.true)
+    (next_step c.args.record.now c.loop-i.i blank c.loop-i-test.true) c.in-Some.goal c.in-Some.is c.in_default-broken_rule.ensures
+    (subst (λ k. c.args.room - c.loop-i.at.extent.used < k) c.cells_needed.ensures c.if-room-at.true)
 
-pub take-step-requires : goal.take-step-requires
-take-step-requires g c =
+pub take_step-requires : goal.take_step-requires
+take_step-requires g c =
     takeable g.L.Leaf.alike (decided g.L.Leaf.alike g.met.L.Leaf.decides) (g.B.Book.entries c.args.book.now)
     (g.B.Book.rules c.args.book.now) c.args.goals.now
     (bounds_of (length c.args.record.now) c.args.room c.args.at.now.extent.used)
@@ -97,13 +97,13 @@ take-step-requires g c =
     c.loop-i.cells c.loop-i.work c.loop-i.frames c.loop-i.at
     (steps_of (drop c.loop-i.i c.args.record.now)) c.loop-i.invariant.1 c.loop-i.i c.loop-i.invariant.0
     (get_or c.args.record.now c.loop-i.i blank) (steps_of (drop (c.loop-i.i + 1) c.args.record.now))
-    (next_step c.args.record.now c.loop-i.i blank c.loop-i-test.true) c.in-Some.goal c.in-Some.is c.in-default-broken-rule.ensures
-    (subst (λ k. k ≤ c.args.room - c.loop-i.at.extent.used) c.cells-needed.ensures c.if-room-at.false)
+    (next_step c.args.record.now c.loop-i.i blank c.loop-i-test.true) c.in-Some.goal c.in-Some.is c.in_default-broken_rule.ensures
+    (subst (λ k. k ≤ c.args.room - c.loop-i.at.extent.used) c.cells_needed.ensures c.if-room-at.false)
     (let h : c.loop-i.at.depth ≡ c.loop-i.i = c.loop-i.invariant.0 in
     let k : c.loop-i.i < length c.args.record.now = c.loop-i-test.true in omega arith)
 
-pub returns-then-not-take-step : goal.returns-then-not-take-step
-returns-then-not-take-step g c =
+pub returns-then-not-take_step : goal.returns-then-not-take_step
+returns-then-not-take_step g c =
     after_fall g.L.Leaf.alike (decided g.L.Leaf.alike g.met.L.Leaf.decides) (g.B.Book.entries c.args.book.now)
     (g.B.Book.rules c.args.book.now) c.args.goals.now
     (bounds_of (length c.args.record.now) c.args.room c.args.at.now.extent.used)
@@ -115,12 +115,12 @@ returns-then-not-take-step g c =
     c.loop-i.cells c.loop-i.work c.loop-i.frames c.loop-i.at
     (steps_of (drop c.loop-i.i c.args.record.now)) c.loop-i.invariant.1 c.loop-i.i c.loop-i.invariant.0
     (get_or c.args.record.now c.loop-i.i blank) (steps_of (drop (c.loop-i.i + 1) c.args.record.now))
-    (next_step c.args.record.now c.loop-i.i blank c.loop-i-test.true) c.in-Some.goal c.in-Some.is c.in-default-broken-rule.ensures
-    (subst (λ k. k ≤ c.args.room - c.loop-i.at.extent.used) c.cells-needed.ensures c.if-room-at.false)
+    (next_step c.args.record.now c.loop-i.i blank c.loop-i-test.true) c.in-Some.goal c.in-Some.is c.in_default-broken_rule.ensures
+    (subst (λ k. k ≤ c.args.room - c.loop-i.at.extent.used) c.cells_needed.ensures c.if-room-at.false)
     (let h : c.loop-i.at.depth ≡ c.loop-i.i = c.loop-i.invariant.0 in
     let k : c.loop-i.i < length c.args.record.now = c.loop-i-test.true in omega arith)
-    c.take-step.new.cells c.take-step.new.work c.take-step.new.frames c.take-step.new.at
-    c.if-not-take-step.ensures
+    c.take_step.new.cells c.take_step.new.work c.take_step.new.frames c.take_step.new.at
+    c.if-not-take_step.ensures
 
 pub loop-i-preserved : goal.loop-i-preserved
 loop-i-preserved g c = (
@@ -135,12 +135,12 @@ loop-i-preserved g c = (
       c.loop-i.cells c.loop-i.work c.loop-i.frames c.loop-i.at
       (steps_of (drop c.loop-i.i c.args.record.now)) c.loop-i.invariant.1 c.loop-i.i c.loop-i.invariant.0
       (get_or c.args.record.now c.loop-i.i blank) (steps_of (drop (c.loop-i.i + 1) c.args.record.now))
-      (next_step c.args.record.now c.loop-i.i blank c.loop-i-test.true) c.in-Some.goal c.in-Some.is c.in-default-broken-rule.ensures
-      (subst (λ k. k ≤ c.args.room - c.loop-i.at.extent.used) c.cells-needed.ensures c.if-room-at.false)
+      (next_step c.args.record.now c.loop-i.i blank c.loop-i-test.true) c.in-Some.goal c.in-Some.is c.in_default-broken_rule.ensures
+      (subst (λ k. k ≤ c.args.room - c.loop-i.at.extent.used) c.cells_needed.ensures c.if-room-at.false)
       (let h : c.loop-i.at.depth ≡ c.loop-i.i = c.loop-i.invariant.0 in
       let k : c.loop-i.i < length c.args.record.now = c.loop-i-test.true in omega arith)
-      c.take-step.new.cells c.take-step.new.work c.take-step.new.frames c.take-step.new.at
-      c.if-not-take-step.ensures,
+      c.take_step.new.cells c.take_step.new.work c.take_step.new.frames c.take_step.new.at
+      c.if-not-take_step.ensures,
   after_step g.L.Leaf.alike (decided g.L.Leaf.alike g.met.L.Leaf.decides) (g.B.Book.entries c.args.book.now)
       (g.B.Book.rules c.args.book.now) c.args.goals.now
       (bounds_of (length c.args.record.now) c.args.room c.args.at.now.extent.used)
@@ -152,12 +152,12 @@ loop-i-preserved g c = (
       c.loop-i.cells c.loop-i.work c.loop-i.frames c.loop-i.at
       (steps_of (drop c.loop-i.i c.args.record.now)) c.loop-i.invariant.1 c.loop-i.i c.loop-i.invariant.0
       (get_or c.args.record.now c.loop-i.i blank) (steps_of (drop (c.loop-i.i + 1) c.args.record.now))
-      (next_step c.args.record.now c.loop-i.i blank c.loop-i-test.true) c.in-Some.goal c.in-Some.is c.in-default-broken-rule.ensures
-      (subst (λ k. k ≤ c.args.room - c.loop-i.at.extent.used) c.cells-needed.ensures c.if-room-at.false)
+      (next_step c.args.record.now c.loop-i.i blank c.loop-i-test.true) c.in-Some.goal c.in-Some.is c.in_default-broken_rule.ensures
+      (subst (λ k. k ≤ c.args.room - c.loop-i.at.extent.used) c.cells_needed.ensures c.if-room-at.false)
       (let h : c.loop-i.at.depth ≡ c.loop-i.i = c.loop-i.invariant.0 in
       let k : c.loop-i.i < length c.args.record.now = c.loop-i-test.true in omega arith)
-      c.take-step.new.cells c.take-step.new.work c.take-step.new.frames c.take-step.new.at
-      c.if-not-take-step.ensures,
+      c.take_step.new.cells c.take_step.new.work c.take_step.new.frames c.take_step.new.at
+      c.if-not-take_step.ensures,
 )
 
 pub returns-in-None : goal.returns-in-None

@@ -3,8 +3,8 @@ use Rattle.std.proofs.lemmas.Bool.{not-true, not-false}
 use Rattle.solver.proofs.Forms.{bad_clause_inner, bad_clause, bad_loop_inner, bad_loop, bad_entry_outer, bad_entry}
 use Rattle.solver.proofs.Forms.{good_clause, good_loop, good_entry}
 use Rattle.solver.proofs.rules.broken_rule.Goals as goal
-use Rattle.solver.proofs.rules.broken_rule.Goals.{then-goal-via-then-goal, then-goal-via-else-goal+then-not-is-clause}
-use Rattle.solver.proofs.rules.broken_rule.Goals.{then-goal-2-via-then-goal-2, then-goal-2-via-else-goal-2+then-not-on-path}
+use Rattle.solver.proofs.rules.broken_rule.Goals.{then-goal-via-then-goal, then-goal-via-else-goal+then-not-is_clause}
+use Rattle.solver.proofs.rules.broken_rule.Goals.{then-goal-2-via-then-goal-2, then-goal-2-via-else-goal-2+then-not-on_path}
 use Rattle.solver.proofs.rules.broken_rule.Goals.{then-not-goal-via-then-not-goal, then-not-goal-via-else-not-goal+then-len-number}
 
 pub returns-then-goal : goal.returns-then-goal
@@ -13,9 +13,9 @@ returns-then-goal g c =
     elim c.then-goal.branch [
       | then-goal-via-then-goal w ↦
           bad_clause_inner book c.args.frames.now c.args.goal c.args.step c.in-1.is w.if-goal.true
-      | then-goal-via-else-goal+then-not-is-clause w ↦
+      | then-goal-via-else-goal+then-not-is_clause w ↦
           bad_clause book c.args.frames.now c.args.goal c.args.step c.in-1.is w.if-goal.false
-          w.if-not-is-clause.ensures
+          w.if-not-is_clause.ensures
     ]
 
 pub returns-then-goal-2 : goal.returns-then-goal-2
@@ -24,9 +24,9 @@ returns-then-goal-2 g c =
     elim c.then-goal-2.branch [
       | then-goal-2-via-then-goal-2 w ↦
           bad_loop_inner book c.args.frames.now c.args.goal c.args.step c.in-2.is w.if-goal-2.true
-      | then-goal-2-via-else-goal-2+then-not-on-path w ↦
+      | then-goal-2-via-else-goal-2+then-not-on_path w ↦
           bad_loop book c.args.frames.now c.args.goal c.args.step c.in-2.is w.if-goal-2.false
-          w.if-not-on-path.ensures
+          w.if-not-on_path.ensures
     ]
 
 pub returns-then-not-goal : goal.returns-then-not-goal
@@ -40,15 +40,15 @@ returns-then-not-goal g c =
           (subst (λ k. k ≤ c.args.step.number) w.len.ensures w.if-len-number.true)
     ]
 
-pub returns-else-not-is-clause : goal.returns-else-not-is-clause
-returns-else-not-is-clause g c =
+pub returns-else-not-is_clause : goal.returns-else-not-is_clause
+returns-else-not-is_clause g c =
     good_clause (g.B.Book.entries c.args.book.now) c.args.frames.now c.args.goal c.args.step
-    (g.B.Book.rules c.args.book.now) c.in-1.is c.if-goal.false c.if-not-is-clause.ensures
+    (g.B.Book.rules c.args.book.now) c.in-1.is c.if-goal.false c.if-not-is_clause.ensures
 
-pub returns-else-not-on-path : goal.returns-else-not-on-path
-returns-else-not-on-path g c =
+pub returns-else-not-on_path : goal.returns-else-not-on_path
+returns-else-not-on_path g c =
     good_loop (g.B.Book.entries c.args.book.now) c.args.frames.now c.args.goal c.args.step
-    c.in-2.is c.if-goal-2.false c.if-not-on-path.ensures
+    c.in-2.is c.if-goal-2.false c.if-not-on_path.ensures
 
 pub returns-else-len-number : goal.returns-else-len-number
 returns-else-len-number g c =

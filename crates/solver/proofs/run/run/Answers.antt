@@ -8,11 +8,11 @@ search-ending-requires g c =
     let alike = g.L.Leaf.alike in
     let book = g.B.Book.entries c.args.book.now in
     subst (λ z. Running alike book c.args.goals.now c.args.bounds.now z c.args.cells.now c.args.work.now
-    c.args.frames.now (record { at = c.begin-at.result; cursor = c.first-tries.result; count = 0 }))
+    c.args.frames.now (record { at = c.begin-at.result; cursor = c.first_tries.result; count = 0 }))
     (sym (begins_over alike book c.args.goals.now c.args.bounds.now c.args.cells.now c.args.work.now
-    c.args.frames.now c.requires c.begin-at.result c.begin-at.ensures c.first-tries.result c.first-tries.ensures))
+    c.args.frames.now c.requires c.begin-at.result c.begin-at.ensures c.first_tries.result c.first_tries.ensures))
     (begins alike book c.args.goals.now c.args.bounds.now c.args.cells.now c.args.work.now
-    c.args.frames.now c.requires c.begin-at.result c.begin-at.ensures c.first-tries.result c.first-tries.ensures)
+    c.args.frames.now c.requires c.begin-at.result c.begin-at.ensures c.first_tries.result c.first_tries.ensures)
 
 pub retract-requires : goal.retract-requires
 retract-requires g c =
@@ -24,11 +24,11 @@ retract-requires g c =
     (subst (λ z. Finished alike book c.args.goals.now c.args.bounds.now z c.search-ending.new.cells
     c.search-ending.new.work c.search-ending.new.frames c.search-ending.new.moment c.search-ending.result)
     (begins_over alike book c.args.goals.now c.args.bounds.now c.args.cells.now c.args.work.now
-    c.args.frames.now c.requires c.begin-at.result c.begin-at.ensures c.first-tries.result c.first-tries.ensures)
+    c.args.frames.now c.requires c.begin-at.result c.begin-at.ensures c.first_tries.result c.first_tries.ensures)
     c.search-ending.ensures)
 
-pub returns-then-not-is-granted : goal.returns-then-not-is-granted
-returns-then-not-is-granted g c =
+pub returns-then-not-is_granted : goal.returns-then-not-is_granted
+returns-then-not-is_granted g c =
     let alike = g.L.Leaf.alike in
     let book = g.B.Book.entries c.args.book.now in
     leaves alike book c.args.goals.now c.args.bounds.now c.args.cells.now c.args.work.now
@@ -37,12 +37,12 @@ returns-then-not-is-granted g c =
     (subst (λ z. Finished alike book c.args.goals.now c.args.bounds.now z c.search-ending.new.cells
     c.search-ending.new.work c.search-ending.new.frames c.search-ending.new.moment c.search-ending.result)
     (begins_over alike book c.args.goals.now c.args.bounds.now c.args.cells.now c.args.work.now
-    c.args.frames.now c.requires c.begin-at.result c.begin-at.ensures c.first-tries.result c.first-tries.ensures)
-    c.search-ending.ensures) c.search-ending.auto.cells (sym c.if-not-is-granted.ensures)
+    c.args.frames.now c.requires c.begin-at.result c.begin-at.ensures c.first_tries.result c.first_tries.ensures)
+    c.search-ending.ensures) c.search-ending.auto.cells (sym c.if-not-is_granted.ensures)
     c.retract.new.cells c.retract.ensures.is c.retract.new.extent c.retract.ensures.extent
 
-pub returns-else-not-is-granted : goal.returns-else-not-is-granted
-returns-else-not-is-granted g c =
+pub returns-else-not-is_granted : goal.returns-else-not-is_granted
+returns-else-not-is_granted g c =
     let alike = g.L.Leaf.alike in
     let book = g.B.Book.entries c.args.book.now in
     grants alike book c.args.goals.now c.args.bounds.now c.args.cells.now c.args.work.now
@@ -51,5 +51,5 @@ returns-else-not-is-granted g c =
     (subst (λ z. Finished alike book c.args.goals.now c.args.bounds.now z c.search-ending.new.cells
     c.search-ending.new.work c.search-ending.new.frames c.search-ending.new.moment c.search-ending.result)
     (begins_over alike book c.args.goals.now c.args.bounds.now c.args.cells.now c.args.work.now
-    c.args.frames.now c.requires c.begin-at.result c.begin-at.ensures c.first-tries.result c.first-tries.ensures)
-    c.search-ending.ensures) c.search-ending.auto.cells (sym c.if-not-is-granted.ensures)
+    c.args.frames.now c.requires c.begin-at.result c.begin-at.ensures c.first_tries.result c.first_tries.ensures)
+    c.search-ending.ensures) c.search-ending.auto.cells (sym c.if-not-is_granted.ensures)

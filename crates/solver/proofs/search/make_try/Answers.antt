@@ -4,7 +4,7 @@ use Rattle.solver.specs.Steps.{size_at}
 use Rattle.solver.specs.Searching.{origin}
 use Rattle.solver.proofs.Moments.{spent, full, scarce, takeable, after_fall, after_step}
 use Rattle.solver.proofs.search.make_try.Goals as goal
-use Rattle.solver.proofs.search.make_try.Goals.{then-take-step, else-take-step}
+use Rattle.solver.proofs.search.make_try.Goals.{then-take_step, else-take_step}
 
 pub returns-then-moment-bounds : goal.returns-then-moment-bounds
 returns-then-moment-bounds g c =
@@ -32,11 +32,11 @@ returns-then-bounds-moment g c =
     c.args.cells.now c.args.work.now c.args.frames.now c.args.moment.now c.requires.running
     c.args.goal c.requires.facing.taken c.args.step c.requires.facing.try c.if-moment-bounds.false
     c.if-moment-bounds-2.false
-    (subst (λ k. c.args.bounds.now.«cells» - c.args.moment.now.at.extent.used < k) c.cells-needed.ensures
+    (subst (λ k. c.args.bounds.now.«cells» - c.args.moment.now.at.extent.used < k) c.cells_needed.ensures
     c.if-bounds-moment.true)
 
-pub take-step-requires : goal.take-step-requires
-take-step-requires g c =
+pub take_step-requires : goal.take_step-requires
+take_step-requires g c =
     let book = g.B.Book.entries c.args.book.now in
     takeable g.L.Leaf.alike (decided g.L.Leaf.alike g.met.L.Leaf.decides) book
     (g.B.Book.rules c.args.book.now) c.args.goals.now c.args.bounds.now
@@ -44,7 +44,7 @@ take-step-requires g c =
     c.args.cells.now c.args.work.now c.args.frames.now c.args.moment.now c.requires.running
     c.args.goal c.requires.facing.taken c.args.step c.requires.facing.try c.if-moment-bounds.false
     c.if-moment-bounds-2.false
-    (subst (λ k. k ≤ c.args.bounds.now.«cells» - c.args.moment.now.at.extent.used) c.cells-needed.ensures
+    (subst (λ k. k ≤ c.args.bounds.now.«cells» - c.args.moment.now.at.extent.used) c.cells_needed.ensures
     c.if-bounds-moment.false)
 
 pub returns : goal.returns
@@ -56,18 +56,18 @@ returns g c =
     let b = c.args.bounds.now in
     let m = c.args.moment.now in
     let cells₀ = origin b.first c.args.cells.now c.args.work.now m.at.extent in
-    let enough = subst (λ k. k ≤ b.«cells» - m.at.extent.used) c.cells-needed.ensures c.if-bounds-moment.false in
-    elim c.if-take-step.branch [
-      | then-take-step w ↦
+    let enough = subst (λ k. k ≤ b.«cells» - m.at.extent.used) c.cells_needed.ensures c.if-bounds-moment.false in
+    elim c.if-take_step.branch [
+      | then-take_step w ↦
           after_step alike law book rules c.args.goals.now b cells₀ c.args.cells.now c.args.work.now
           c.args.frames.now m c.requires.running c.args.goal c.requires.facing.taken c.args.step
-          c.requires.facing.try c.if-moment-bounds.false c.if-moment-bounds-2.false enough c.take-step.new.cells
-          c.take-step.new.work c.take-step.new.frames c.take-step.new.at w.if-take-step.ensures c.if-take-step.cursor
-          (λ y e. w.cursor-is ∙ w.first-tries-cursor.ensures y e)
-      | else-take-step w ↦
+          c.requires.facing.try c.if-moment-bounds.false c.if-moment-bounds-2.false enough c.take_step.new.cells
+          c.take_step.new.work c.take_step.new.frames c.take_step.new.at w.if-take_step.ensures c.if-take_step.cursor
+          (λ y e. w.cursor-is ∙ w.first_tries-cursor.ensures y e)
+      | else-take_step w ↦
           after_fall alike law book rules c.args.goals.now b cells₀ c.args.cells.now c.args.work.now
           c.args.frames.now m c.requires.running c.args.goal c.requires.facing.taken c.args.step
-          c.requires.facing.try c.if-moment-bounds.false c.if-moment-bounds-2.false enough c.take-step.new.cells
-          c.take-step.new.work c.take-step.new.frames c.take-step.new.at w.if-take-step.ensures c.if-take-step.cursor
+          c.requires.facing.try c.if-moment-bounds.false c.if-moment-bounds-2.false enough c.take_step.new.cells
+          c.take_step.new.work c.take_step.new.frames c.take_step.new.at w.if-take_step.ensures c.if-take_step.cursor
           (w.cursor-is ∙ w.after-cursor.ensures)
     ]

@@ -8,8 +8,8 @@ use Rattle.solver.proofs.search.search.Goals as goal
 pub loop-moment-init : goal.loop-moment-init
 loop-moment-init g c = c.requires
 
-pub make-try-requires : goal.make-try-requires
-make-try-requires g c =
+pub make_try-requires : goal.make_try-requires
+make_try-requires g c =
     let alike = g.L.Leaf.alike in
     let book = g.B.Book.entries c.args.book.now in
     let l = c.loop-moment in
@@ -18,36 +18,36 @@ make-try-requires g c =
           subst (λ z. Running alike book c.args.goals.now c.args.bounds.now z l.cells l.work l.frames l.moment)
           (sym (origin_is alike (decided alike g.met.L.Leaf.decides) book (g.B.Book.rules c.args.book.now)
           c.args.goals.now c.args.bounds.now _ l.cells l.work l.frames l.moment l.invariant)) l.invariant;
-      facing = record { taken = c.in-Some.is; try = c.in-Some-next-try.ensures };
+      facing = record { taken = c.in-Some.is; try = c.in-Some-next_try.ensures };
     }
 
-pub returns-in-Some-make-try : goal.returns-in-Some-make-try
-returns-in-Some-make-try g c =
+pub returns-in-Some-make_try : goal.returns-in-Some-make_try
+returns-in-Some-make_try g c =
     let alike = g.L.Leaf.alike in
     let book = g.B.Book.entries c.args.book.now in
     let l = c.loop-moment in
-    subst (λ z. Finished alike book c.args.goals.now c.args.bounds.now z c.make-try.new.cells
-    c.make-try.new.work c.make-try.new.frames c.make-try.new.moment c.in-Some-make-try.ending)
+    subst (λ z. Finished alike book c.args.goals.now c.args.bounds.now z c.make_try.new.cells
+    c.make_try.new.work c.make_try.new.frames c.make_try.new.moment c.in-Some-make_try.ending)
     (origin_is alike (decided alike g.met.L.Leaf.decides) book (g.B.Book.rules c.args.book.now)
     c.args.goals.now c.args.bounds.now _ l.cells l.work l.frames l.moment l.invariant)
-    c.in-Some-make-try.ensures
+    c.in-Some-make_try.ensures
 
-pub loop-moment-smaller-in-default-make-try : goal.loop-moment-smaller-in-default-make-try
-loop-moment-smaller-in-default-make-try g c = c.in-default-make-try.ensures.1
+pub loop-moment-smaller-in_default-make_try : goal.loop-moment-smaller-in_default-make_try
+loop-moment-smaller-in_default-make_try g c = c.in_default-make_try.ensures.1
 
-pub loop-moment-preserved-in-default-make-try : goal.loop-moment-preserved-in-default-make-try
-loop-moment-preserved-in-default-make-try g c =
+pub loop-moment-preserved-in_default-make_try : goal.loop-moment-preserved-in_default-make_try
+loop-moment-preserved-in_default-make_try g c =
     let alike = g.L.Leaf.alike in
     let book = g.B.Book.entries c.args.book.now in
     let l = c.loop-moment in
-    subst (λ z. Running alike book c.args.goals.now c.args.bounds.now z c.make-try.new.cells
-    c.make-try.new.work c.make-try.new.frames c.make-try.new.moment)
+    subst (λ z. Running alike book c.args.goals.now c.args.bounds.now z c.make_try.new.cells
+    c.make_try.new.work c.make_try.new.frames c.make_try.new.moment)
     (origin_is alike (decided alike g.met.L.Leaf.decides) book (g.B.Book.rules c.args.book.now)
     c.args.goals.now c.args.bounds.now _ l.cells l.work l.frames l.moment l.invariant)
-    c.in-default-make-try.ensures.0
+    c.in_default-make_try.ensures.0
 
-pub step-back-requires : goal.step-back-requires
-step-back-requires g c =
+pub step_back-requires : goal.step_back-requires
+step_back-requires g c =
     let alike = g.L.Leaf.alike in
     let book = g.B.Book.entries c.args.book.now in
     let l = c.loop-moment in
@@ -59,12 +59,12 @@ step-back-requires g c =
       facing = record { taken = c.in-Some.is; try = c.in-None.ensures };
     }
 
-pub returns-then-not-step-back : goal.returns-then-not-step-back
-returns-then-not-step-back g c =
+pub returns-then-not-step_back : goal.returns-then-not-step_back
+returns-then-not-step_back g c =
     let alike = g.L.Leaf.alike in
     let book = g.B.Book.entries c.args.book.now in
     let l = c.loop-moment in
-    let b = c.if-not-step-back.ensures in
+    let b = c.if-not-step_back.ensures in
     let done = failing alike (decided alike g.met.L.Leaf.decides) book (g.B.Book.rules c.args.book.now)
     c.args.goals.now c.args.bounds.now
     (origin c.args.bounds.now.first c.args.cells.now c.args.work.now c.args.moment.now.at.extent)
@@ -74,18 +74,18 @@ returns-then-not-step-back g c =
     cs l.work l.frames m Failed) (sym b.1) (sym b.2) done
 
 pub loop-moment-smaller : goal.loop-moment-smaller
-loop-moment-smaller g c = c.if-not-step-back.ensures.1
+loop-moment-smaller g c = c.if-not-step_back.ensures.1
 
 pub loop-moment-preserved : goal.loop-moment-preserved
 loop-moment-preserved g c =
     let alike = g.L.Leaf.alike in
     let book = g.B.Book.entries c.args.book.now in
     let l = c.loop-moment in
-    subst (λ z. Running alike book c.args.goals.now c.args.bounds.now z c.step-back.new.cells
-    l.work l.frames c.step-back.new.moment)
+    subst (λ z. Running alike book c.args.goals.now c.args.bounds.now z c.step_back.new.cells
+    l.work l.frames c.step_back.new.moment)
     (origin_is alike (decided alike g.met.L.Leaf.decides) book (g.B.Book.rules c.args.book.now)
     c.args.goals.now c.args.bounds.now _ l.cells l.work l.frames l.moment l.invariant)
-    c.if-not-step-back.ensures.0
+    c.if-not-step_back.ensures.0
 
 pub returns : goal.returns
 returns g c =
@@ -93,4 +93,4 @@ returns g c =
     let l = c.loop-moment in
     granted alike (decided alike g.met.L.Leaf.decides) (g.B.Book.entries c.args.book.now)
     (g.B.Book.rules c.args.book.now) c.args.goals.now c.args.bounds.now _
-    l.cells l.work l.frames l.moment l.invariant c.in-default.is
+    l.cells l.work l.frames l.moment l.invariant c.in_default.is

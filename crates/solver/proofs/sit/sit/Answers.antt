@@ -18,48 +18,48 @@ loop-call-init g c = (
   begun (g.B.Book.entries c.args.book.now) (g.B.Book.rules c.args.book.now) _ _ c.wipe.ensures.wiped.begins,
 )
 
-pub returns-in-err-answer : goal.returns-in-err-answer
-returns-in-err-answer g c =
+pub returns-in_err-answer : goal.returns-in_err-answer
+returns-in_err-answer g c =
     let l = c.loop-call in
     let i = l.invariant in
     let f = lent (length c.args.steps.now) (length c.args.work.now) (length c.args.frames.now) in
     let book = g.B.Book.entries c.args.book.now in
     let x = c.call-item.result in
-    let m = c.make-call.ensures in
-    let p = err_from_is_err_and c.from-residual.result c.from-residual.ensures.1 in
+    let m = c.make_call.ensures in
+    let p = err_from_is_err_and c.from_residual.result c.from_residual.ensures.1 in
     record {
       sat =
-          subst (λ r. Sat book (supplied c.args.slate.now) (map f c.args.calls.now) (on_slate c.make-call.new.slate)
+          subst (λ r. Sat book (supplied c.args.slate.now) (map f c.args.calls.now) (on_slate c.make_call.new.slate)
           (listed r)) (sym p.1)
-          (subst (λ n. Sat book n (map f c.args.calls.now) (on_slate c.make-call.new.slate) (Err p.0))
+          (subst (λ n. Sat book n (map f c.args.calls.now) (on_slate c.make_call.new.slate) (Err p.0))
           c.wipe.ensures.as_many
           (lost f c.args.calls.now l.call-index x c.call-item.is c.loop-call-test.true book
-          (supplied c.wipe.new.self) (on_slate l.slate) (on_slate c.make-call.new.slate) (vec_items l.answers) i.0
+          (supplied c.wipe.new.self) (on_slate l.slate) (on_slate c.make_call.new.slate) (vec_items l.answers) i.0
           i.5 m.answer
-          (at_lengths book (on_slate l.slate) (on_slate c.make-call.new.slate) x m.answer i.1 i.2 i.3 i.4
+          (at_lengths book (on_slate l.slate) (on_slate c.make_call.new.slate) x m.answer i.1 i.2 i.3 i.4
           m.carries) p.0));
       as_many = (m.as_many ∙ i.1) ∙ c.wipe.ensures.as_many;
     }
 
-pub returns-in-err-push : goal.returns-in-err-push
-returns-in-err-push g c =
+pub returns-in_err-push : goal.returns-in_err-push
+returns-in_err-push g c =
     let l = c.loop-call in
     let i = l.invariant in
     let f = lent (length c.args.steps.now) (length c.args.work.now) (length c.args.frames.now) in
     let book = g.B.Book.entries c.args.book.now in
     let x = c.call-item.result in
-    let m = c.make-call.ensures in
-    let p = err_from_is_err_and c.from-residual-in-err-push.result c.from-residual-in-err-push.ensures.1 in
+    let m = c.make_call.ensures in
+    let p = err_from_is_err_and c.from_residual-in_err-push.result c.from_residual-in_err-push.ensures.1 in
     record {
       sat =
-          subst (λ r. Sat book (supplied c.args.slate.now) (map f c.args.calls.now) (on_slate c.make-call.new.slate)
+          subst (λ r. Sat book (supplied c.args.slate.now) (map f c.args.calls.now) (on_slate c.make_call.new.slate)
           (listed r)) (sym p.1)
-          (subst (λ n. Sat book n (map f c.args.calls.now) (on_slate c.make-call.new.slate) (Err p.0))
+          (subst (λ n. Sat book n (map f c.args.calls.now) (on_slate c.make_call.new.slate) (Err p.0))
           c.wipe.ensures.as_many
           (lost f c.args.calls.now l.call-index x c.call-item.is c.loop-call-test.true book
-          (supplied c.wipe.new.self) (on_slate l.slate) (on_slate c.make-call.new.slate) (vec_items l.answers) i.0
+          (supplied c.wipe.new.self) (on_slate l.slate) (on_slate c.make_call.new.slate) (vec_items l.answers) i.0
           i.5 m.answer
-          (at_lengths book (on_slate l.slate) (on_slate c.make-call.new.slate) x m.answer i.1 i.2 i.3 i.4
+          (at_lengths book (on_slate l.slate) (on_slate c.make_call.new.slate) x m.answer i.1 i.2 i.3 i.4
           m.carries) p.0));
       as_many = (m.as_many ∙ i.1) ∙ c.wipe.ensures.as_many;
     }
@@ -71,18 +71,18 @@ loop-call-preserved g c =
     let f = lent (length c.args.steps.now) (length c.args.work.now) (length c.args.frames.now) in
     let book = g.B.Book.entries c.args.book.now in
     let x = c.call-item.result in
-    let m = c.in-ok-answer.ensures in
-    let items = c.in-ok-push.ensures.items in (
-      ap length items ∙ (length_push (vec_items l.answers) c.in-ok-answer.answer ∙ ap (λ k. k + 1) i.0),
+    let m = c.in_ok-answer.ensures in
+    let items = c.in_ok-push.ensures.items in (
+      ap length items ∙ (length_push (vec_items l.answers) c.in_ok-answer.answer ∙ ap (λ k. k + 1) i.0),
       m.as_many ∙ i.1,
-      c.make-call.auto.steps ∙ i.2,
-      c.make-call.auto.work ∙ i.3,
-      c.make-call.auto.frames ∙ i.4,
+      c.make_call.auto.steps ∙ i.2,
+      c.make_call.auto.work ∙ i.3,
+      c.make_call.auto.frames ∙ i.4,
       collected f c.args.calls.now l.call-index x c.call-item.is c.loop-call-test.true book
-          (supplied c.wipe.new.self) (on_slate l.slate) (on_slate c.make-call.new.slate) (vec_items l.answers) i.0
+          (supplied c.wipe.new.self) (on_slate l.slate) (on_slate c.make_call.new.slate) (vec_items l.answers) i.0
           i.5 m.answer
-          (at_lengths book (on_slate l.slate) (on_slate c.make-call.new.slate) x m.answer i.1 i.2 i.3 i.4
-          m.carries) c.in-ok-answer.answer m.is (vec_items c.push.new.self) items,
+          (at_lengths book (on_slate l.slate) (on_slate c.make_call.new.slate) x m.answer i.1 i.2 i.3 i.4
+          m.carries) c.in_ok-answer.answer m.is (vec_items c.push.new.self) items,
     )
 
 pub returns : goal.returns

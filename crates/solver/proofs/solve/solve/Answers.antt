@@ -15,31 +15,31 @@ use Rattle.solver.specs.Solver.{solved_or, RecordLeft}
 use Rattle.solver.proofs.Solving.{solve_too_long, solve_refused, solve_searched, refused_over, admitted_over}
 use Rattle.solver.proofs.solve.solve.Goals as goal
 
-pub returns-then-goals-gt-MOST-GOALS : goal.returns-then-goals-gt-MOST-GOALS
-returns-then-goals-gt-MOST-GOALS g c = record {
+pub returns-then-goals-gt-MOST_GOALS : goal.returns-then-goals-gt-MOST_GOALS
+returns-then-goals-gt-MOST_GOALS g c = record {
   kept =
       solve_too_long (Coded-set g.row.L.coded) g.L.Leaf.alike (decided g.L.Leaf.alike g.met.L.Leaf.decides)
       (g.B.Book.entries c.args.book.now) (g.B.Book.rules c.args.book.now) c.args.slate.now c.args.goals.now
       c.args.budget (length c.args.steps.now) (length c.args.work.now) (length c.args.frames.now)
-      c.if-goals-gt-MOST-GOALS.true;
-  record-left = refl;
+      c.if-goals-gt-MOST_GOALS.true;
+  record_left = refl;
 }
 
 pub admit-requires : goal.admit-requires
 admit-requires g c =
     let s = c.args.slate.now in
     record {
-      part = omega (arith, s.within, c.as-slice.ensures.len);
+      part = omega (arith, s.within, c.as_slice.ensures.len);
       sound =
-          subst (λ l. WellFormed (take s.used l)) (sym c.as-slice.ensures.value)
+          subst (λ l. WellFormed (take s.used l)) (sym c.as_slice.ensures.value)
           (sound_out (Coded-set g.row.L.coded) (take s.used (vec_items s.cells)) s.sound);
     }
 
-pub returns-in-err-admit : goal.returns-in-err-admit
-returns-in-err-admit g c =
+pub returns-in_err-admit : goal.returns-in_err-admit
+returns-in_err-admit g c =
     let s = c.args.slate.now in
-    let p = err_from_is_err_and c.from-residual.result c.from-residual.ensures.1 in
-    let e : c.from-residual.result ≡ Err c.in-err-admit.field-0.0 = cc (p.1, p.2) in
+    let p = err_from_is_err_and c.from_residual.result c.from_residual.ensures.1 in
+    let e : c.from_residual.result ≡ Err c.in_err-admit.field-0.0 = cc (p.1, p.2) in
     record {
       kept =
           subst (λ r. KeptOver (g.B.Book.entries c.args.book.now) s s
@@ -48,27 +48,27 @@ returns-in-err-admit g c =
           (solve_refused (Coded-set g.row.L.coded) g.L.Leaf.alike (decided g.L.Leaf.alike g.met.L.Leaf.decides)
           (g.B.Book.entries c.args.book.now) (g.B.Book.rules c.args.book.now) s c.args.goals.now
           c.args.budget (length c.args.steps.now) (length c.args.work.now) (length c.args.frames.now)
-          c.if-goals-gt-MOST-GOALS.false c.in-err-admit.field-0.0
+          c.if-goals-gt-MOST_GOALS.false c.in_err-admit.field-0.0
           (refused_over s c.args.goals.now (length c.args.steps.now) (length c.args.work.now)
-          (length c.args.frames.now) c.as-slice.result.now (length c.as-slice.result.now) c.min-served.result
-          c.as-slice.ensures.value c.as-slice.ensures.len c.min-served.ensures c.in-err-admit.field-0.0
-          c.in-err-admit.ensures));
-      record-left = subst (λ r. RecordLeft c.args.steps.now c.args.steps.now r) (sym e) refl;
+          (length c.args.frames.now) c.as_slice.result.now (length c.as_slice.result.now) c.min-served.result
+          c.as_slice.ensures.value c.as_slice.ensures.len c.min-served.ensures c.in_err-admit.field-0.0
+          c.in_err-admit.ensures));
+      record_left = subst (λ r. RecordLeft c.args.steps.now c.args.steps.now r) (sym e) refl;
     }
 
 pub run-end-requires : goal.run-end-requires
 run-end-requires g c =
     let s = c.args.slate.now in
-    let ok = c.in-ok-admit.ensures in
-    let long : 9 * min (length c.as-slice.result.now) 2048 ≤ length c.args.work.now = ok.long in
-    let n : length c.as-slice.result.now ≡ vec_len s.cells = c.as-slice.ensures.len in
+    let ok = c.in_ok-admit.ensures in
+    let long : 9 * min (length c.as_slice.result.now) 2048 ≤ length c.args.work.now = ok.long in
+    let n : length c.as_slice.result.now ≡ vec_len s.cells = c.as_slice.ensures.len in
     let m : c.min.result ≡ min c.len.result 2048 = c.min.ensures in
     let l : c.len.result ≡ vec_len s.cells = c.len.ensures in
-    let v : length c.as-mut-slice.result.now ≡ vec_len s.cells = c.as-mut-slice.ensures.len in
+    let v : length c.as_mut_slice.result.now ≡ vec_len s.cells = c.as_mut_slice.ensures.len in
     let w : c.min-served.result ≡ min (length c.args.steps.now) 4096 = c.min-served.ensures in
     record {
       ground = record {
-        few_goals = c.if-goals-gt-MOST-GOALS.false;
+        few_goals = c.if-goals-gt-MOST_GOALS.false;
         low = ok.low;
         begin = omega (arith, s.within, s.few);
         fits = omega arith;
@@ -78,12 +78,12 @@ run-end-requires g c =
         short = omega arith;
       };
       sound =
-          subst (λ x. WellFormed (take s.used x)) (sym c.as-mut-slice.ensures.value)
+          subst (λ x. WellFormed (take s.used x)) (sym c.as_mut_slice.ensures.value)
           (sound_out (Coded-set g.row.L.coded) (take s.used (vec_items s.cells)) s.sound);
     }
 
-pub invariant-of-slate : goal.invariant-of-slate
-invariant-of-slate g c =
+pub invariant_of-slate : goal.invariant_of-slate
+invariant_of-slate g c =
     let s = c.args.slate.now in
     let ws = c.run-end.new.cells in
     let used : c.run-end.result.used ≤ c.min.result = c.run-end.ensures.used in
@@ -95,7 +95,7 @@ invariant-of-slate g c =
         (
           ∣ subst (λ x. WellFormed (take c.run-end.result.used x))
               (sym (refill (vec_len s.cells) (vec_items s.cells) ws s.cells.ok.0
-              (c.run-end.ensures.as_many ∙ ap length c.as-mut-slice.ensures.value)))
+              (c.run-end.ensures.as_many ∙ ap length c.as_mut_slice.ensures.value)))
               c.run-end.ensures.sound ∣₁,
           tt,
         ),
@@ -123,20 +123,20 @@ returns g c =
           (length c.args.frames.now))) (sym c.conclude.ensures.is)
           (solve_searched (Coded-set g.row.L.coded) alike (decided alike g.met.L.Leaf.decides) book
           (g.B.Book.rules c.args.book.now) s c.args.goals.now c.args.budget (length c.args.steps.now)
-          (length c.args.work.now) (length c.args.frames.now) c.if-goals-gt-MOST-GOALS.false
+          (length c.args.work.now) (length c.args.frames.now) c.if-goals-gt-MOST_GOALS.false
           b refl c.min-served.ensures (c.min.ensures ∙ ap (λ k. min k 2048) c.len.ensures) (sym (as_used s)) s.used
           (admitted_over s c.args.goals.now (length c.args.steps.now) (length c.args.work.now)
-          (length c.args.frames.now) c.as-slice.result.now (length c.as-slice.result.now) c.min-served.result
-          c.as-slice.ensures.value c.as-slice.ensures.len c.min-served.ensures c.in-ok-admit.ensures)
+          (length c.args.frames.now) c.as_slice.result.now (length c.as_slice.result.now) c.min-served.result
+          c.as_slice.ensures.value c.as_slice.ensures.len c.min-served.ensures c.in_ok-admit.ensures)
           o c.run-end.ensures.last
           (subst (λ x. EndsAs alike book c.args.goals.now s.used (cells_of (take s.used x)) (limits_of b) o
-          c.run-end.ensures.last) c.as-mut-slice.ensures.value c.run-end.ensures.ends)
+          c.run-end.ensures.last) c.as_mut_slice.ensures.value c.run-end.ensures.ends)
           _
           (ap (λ x. cells_of (take end.used x))
           (refill (vec_len s.cells) (vec_items s.cells) ws s.cells.ok.0
-          (c.run-end.ensures.as_many ∙ ap length c.as-mut-slice.ensures.value))
+          (c.run-end.ensures.as_many ∙ ap length c.as_mut_slice.ensures.value))
           ∙ (c.run-end.ensures.left
-          ∙ ap (λ x. left_by (cells_of (take s.used x)) c.run-end.ensures.last o) c.as-mut-slice.ensures.value))
+          ∙ ap (λ x. left_by (cells_of (take s.used x)) c.run-end.ensures.last o) c.as_mut_slice.ensures.value))
           refl);
-      record-left = c.conclude.ensures.left;
+      record_left = c.conclude.ensures.left;
     }

@@ -8,21 +8,21 @@ use Rattle.wire.proofs.listing.list_text.Goals as goal
 pub unreachable-requires : goal.unreachable-requires
 unreachable-requires g c =
     has_outline (g.B.Book.entries c.args.book.now) c.loop-number.number (omega (arith, c.len-count.ensures))
-    (sym c.in-default.ensures)
+    (sym c.in_default.ensures)
 
 pub loop-number-preserved : goal.loop-number-preserved
 loop-number-preserved g c =
     one_line_more (g.B.Book.entries c.args.book.now) c.loop-number.number c.in-Some.outline
-    (string_bytes c.loop-number.text) c.as-str.result.now (string_bytes c.push-str.new.self)
-    (sym c.in-Some.ensures) c.loop-number.invariant (c.as-str.ensures.value ∙ c.in-ok-line.ensures)
-    (pushed c.as-str.result.now refl c.in-ok-push-str.was c.push-str.ensures.bytes)
+    (string_bytes c.loop-number.text) c.as_str.result.now (string_bytes c.push_str.new.self)
+    (sym c.in-Some.ensures) c.loop-number.invariant (c.as_str.ensures.value ∙ c.in_ok-line.ensures)
+    (pushed c.as_str.result.now refl c.in_ok-push_str.was c.push_str.ensures.bytes)
 
 pub returns : goal.returns
 unfolding listing_of
 returns g c =
     let es = g.B.Book.entries c.args.book.now in
     let all : length es ≤ c.loop-number.number = omega (arith, c.len-count.ensures) in
-    pushed c.as-str-2.result.now refl c.in-ok-push-str-2.was c.push-str-2.ensures.bytes
-    ∙ ap (λ x. x ++ c.as-str-2.result.now) (c.loop-number.invariant ∙ ap (entry_lines 0) (take_all c.loop-number.number es all))
-    ∙ ap (λ x. entry_lines 0 es ++ x) (c.as-str-2.ensures.value ∙ c.in-ok-line-2.ensures)
+    pushed c.as_str-2.result.now refl c.in_ok-push_str-2.was c.push_str-2.ensures.bytes
+    ∙ ap (λ x. x ++ c.as_str-2.result.now) (c.loop-number.invariant ∙ ap (entry_lines 0) (take_all c.loop-number.number es all))
+    ∙ ap (λ x. entry_lines 0 es ++ x) (c.as_str-2.ensures.value ∙ c.in_ok-line-2.ensures)
     ∙ ap (λ n. entry_lines 0 es ++ last_line n c.args.fault) c.len-count.ensures

@@ -13,7 +13,7 @@ loop-rest-preserved g c =
     let reading = g.L.WireLeaf.reading in
     let inv = c.loop-rest.invariant in
     let h = c.in-Ok.ensures.means in
-    let a = c.in-ok-add-entry.ensures h.0 h.1 inv.1 in
+    let a = c.in_ok-add_entry.ensures h.0 h.1 inv.1 in
     let bs = c.loop-rest.rest.now in
     let left = c.in-Ok.entry.left.now in
     let book = row_of wide reading 0 0 c.args.bytes.now in
@@ -21,9 +21,9 @@ loop-rest-preserved g c =
       omega (arith, c.in-Ok.ensures.shorter, inv.0),
       a.0,
       keeps_entries wide reading book _ _ _ c.loop-rest.at _ c.len.result (length (vec_items c.loop-rest.rows))
-          (length (vec_items c.add-entry.new.rows)) bs left n h.2 a.2 a.1 inv.2,
+          (length (vec_items c.add_entry.new.rows)) bs left n h.2 a.2 a.1 inv.2,
       keeps_fault wide reading book _ _ _ c.loop-rest.at _ c.len.result (length (vec_items c.loop-rest.rows))
-          (length (vec_items c.add-entry.new.rows)) bs left n h.2 a.2 a.1 inv.3,
+          (length (vec_items c.add_entry.new.rows)) bs left n h.2 a.2 a.1 inv.3,
     )
 
 pub returns : goal.returns
@@ -35,6 +35,6 @@ returns g c =
     let at = c.loop-rest.at in
     let n = length (vec_items c.loop-rest.rows) in
     let es = row_entries (vec_items c.loop-rest.cells) (vec_items c.loop-rest.rows) in
-    let none = nil_from_length bs (eqb-true (length bs) 0 (sym c.is-empty.ensures ∙ c.loop-rest-test.false)) in
+    let none = nil_from_length bs (eqb-true (length bs) 0 (sym c.is_empty.ensures ∙ c.loop-rest-test.false)) in
     let end = ap (row_of wide reading at n) none ∙ row_nil wide reading at n in
     (inv.2 ∙ ap (λ m. es ++ m.entries) end ∙ append-nil es, inv.3 ∙ ap (λ m. m.first_fault) end)

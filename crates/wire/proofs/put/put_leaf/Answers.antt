@@ -5,5 +5,5 @@ use Rattle.wire.proofs.put.put_leaf.Goals as goal
 pub returns-in-Ok : goal.returns-in-Ok
 returns-in-Ok g c =
     let v = c.args.value.now in
-    fills_field 17 (g.L.WireLeaf.written v) c.put-header-at.ensures (c.width.ensures ∙ sym (g.met.L.WireLeaf.even v))
+    fills_field 17 (g.L.WireLeaf.written v) c.put_header-at.ensures (c.width.ensures ∙ sym (g.met.L.WireLeaf.even v))
     c.in-Ok.ensures

@@ -8,4 +8,4 @@ returns g c =
     let args = c.args.args.now in
     let e : 2 + length args ≡ suc (suc (length args)) = omega arith in
     fills_same (ap (λ s. 18 ∷ (two_bytes s ++ (two_bytes c.args.symbol ++ args))) e) refl
-    (fills_rest (fills_rest c.put-header-start.ensures c.put-bytes.ensures) c.put-bytes-2.ensures)
+    (fills_rest (fills_rest c.put_header-start.ensures c.put_bytes.ensures) c.put_bytes-2.ensures)

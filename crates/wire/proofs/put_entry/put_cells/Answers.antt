@@ -9,8 +9,8 @@ use Rattle.wire.proofs.put_entry.put_cells.Goals as goal
 pub loop-j-init : goal.loop-j-init
 loop-j-init g c = fills_none c.args.out.now
 
-pub put-cell-at-requires : goal.put-cell-at-requires
-put-cell-at-requires g c =
+pub put_cell-at-requires : goal.put_cell-at-requires
+put_cell-at-requires g c =
     let o = slice_get (g.B.Book.entries c.args.book.now) c.args.index in
     let f = part_form g.L.WireLeaf.written in
     let at = sym (c.in-Some.ensures ∙ cell_is o c.loop-j.j) in (
@@ -23,7 +23,7 @@ loop-j-preserved g c =
     let o = slice_get (g.B.Book.entries c.args.book.now) c.args.index in
     let f = part_form g.L.WireLeaf.written in
     let at = sym (c.in-Some.ensures ∙ cell_is o c.loop-j.j) in
-    fills_next f (parts_in o) c.loop-j.j (ap (shown f) at) c.loop-j.invariant c.put-cell-at.ensures
+    fills_next f (parts_in o) c.loop-j.j (ap (shown f) at) c.loop-j.invariant c.put_cell-at.ensures
 
 pub returns-in-None : goal.returns-in-None
 returns-in-None g c =

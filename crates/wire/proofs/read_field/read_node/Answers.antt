@@ -2,9 +2,9 @@ use Rattle.std.proofs.Common.{refl, ◌∙◌}
 use Rattle.wire.proofs.Every.{every_below}
 use Rattle.wire.proofs.read_field.read_node.Goals as goal
 
-pub returns-then-not-all-below : goal.returns-then-not-all-below
-returns-then-not-all-below c = (
-  every_below c.args.count c.args.args.now c.all-below.result c.all-below.ensures ∙ c.if-not-all-below.true,
+pub returns-then-not-all_below : goal.returns-then-not-all_below
+returns-then-not-all_below c = (
+  every_below c.args.count c.args.args.now c.all_below.result c.all_below.ensures ∙ c.if-not-all_below.true,
   c.inside.ensures,
 )
 
@@ -12,5 +12,5 @@ pub returns : goal.returns
 returns c = (
   refl,
   c.in-Some.ensures,
-  every_below c.args.count c.args.args.now c.all-below.result c.all-below.ensures ∙ c.if-not-all-below.false,
+  every_below c.args.count c.args.args.now c.all_below.result c.all_below.ensures ∙ c.if-not-all_below.false,
 )

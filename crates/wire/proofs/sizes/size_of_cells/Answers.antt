@@ -6,9 +6,9 @@ use Rattle.wire.proofs.Bounds.{cell_is, few_parts, there}
 use Rattle.wire.proofs.Filling.{joined_all, long_next}
 use Rattle.wire.proofs.sizes.size_of_cells.Goals as goal
 
-pub overflow-add-size : goal.overflow-add-size
-overflow-add-size g c =
-    omega (arith, c.loop-j.invariant.1, c.size-of-cell-size.ensures.small, few_parts (g.B.Book.rules c.args.book.now) c.args.index)
+pub overflow_add-size : goal.overflow_add-size
+overflow_add-size g c =
+    omega (arith, c.loop-j.invariant.1, c.size_of_cell-size.ensures.small, few_parts (g.B.Book.rules c.args.book.now) c.args.index)
 
 pub loop-j-preserved : goal.loop-j-preserved
 loop-j-preserved g c =
@@ -16,9 +16,9 @@ loop-j-preserved g c =
     let o = slice_get es c.args.index in
     let f = part_form g.L.WireLeaf.written in
     let at = c.in-Some.ensures ∙ cell_is o c.loop-j.j in (
-      long_next f (parts_in o) c.loop-j.j c.loop-j.size c.size-of-cell-size.result _ (ap (shown f) (sym at)) c.loop-j.invariant.0
-          c.size-of-cell-size.ensures.value,
-      omega (arith, c.loop-j.invariant.1, c.size-of-cell-size.ensures.small),
+      long_next f (parts_in o) c.loop-j.j c.loop-j.size c.size_of_cell-size.result _ (ap (shown f) (sym at)) c.loop-j.invariant.0
+          c.size_of_cell-size.ensures.value,
+      omega (arith, c.loop-j.invariant.1, c.size_of_cell-size.ensures.small),
     )
 
 pub returns-in-None : goal.returns-in-None

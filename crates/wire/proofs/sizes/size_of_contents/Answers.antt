@@ -3,16 +3,16 @@ use Rattle.std.specs.List.{slice_get}
 use Rattle.wire.proofs.Bounds.{cells_count, contents_size, few_goals, goals_count}
 use Rattle.wire.proofs.sizes.size_of_contents.Goals as goal
 
-pub size-of-cells-requires : goal.size-of-cells-requires
-size-of-cells-requires g c =
+pub size_of_cells-requires : goal.size_of_cells-requires
+size_of_cells-requires g c =
     cells_count g.L.WireLeaf.written (slice_get (g.B.Book.entries c.args.book.now) c.args.index) c.args.outline c.requires
 
-pub overflow-add-result-2 : goal.overflow-add-result-2
-overflow-add-result-2 g c =
+pub overflow_add-result-2 : goal.overflow_add-result-2
+overflow_add-result-2 g c =
     let o = slice_get (g.B.Book.entries c.args.book.now) c.args.index in
     omega (
       arith,
-      c.size-of-cells.ensures.small,
+      c.size_of_cells.ensures.small,
       goals_count g.L.WireLeaf.written o c.args.outline c.requires,
       few_goals (g.B.Book.rules c.args.book.now) c.args.index,
     )
@@ -22,11 +22,11 @@ returns g c =
     let o = slice_get (g.B.Book.entries c.args.book.now) c.args.index in
     let w = g.L.WireLeaf.written in
     record {
-      value = omega (arith, c.size-of-cells.ensures.value, contents_size w o c.args.outline c.requires);
+      value = omega (arith, c.size_of_cells.ensures.value, contents_size w o c.args.outline c.requires);
       small =
           omega (
             arith,
-            c.size-of-cells.ensures.small,
+            c.size_of_cells.ensures.small,
             goals_count w o c.args.outline c.requires,
             few_goals (g.B.Book.rules c.args.book.now) c.args.index,
           );

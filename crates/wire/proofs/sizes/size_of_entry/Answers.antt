@@ -10,8 +10,8 @@ returns-in-Some g c =
     let o = slice_get (g.B.Book.entries c.args.book.now) c.args.index in
     record {
       value =
-          omega (arith, c.size-of-contents.ensures.value, entry_size g.L.WireLeaf.written o c.in-Some.outline c.in-Some.ensures);
-      small = omega (arith, c.size-of-contents.ensures.small);
+          omega (arith, c.size_of_contents.ensures.value, entry_size g.L.WireLeaf.written o c.in-Some.outline c.in-Some.ensures);
+      small = omega (arith, c.size_of_contents.ensures.small);
     }
 
 pub returns-in-None : goal.returns-in-None

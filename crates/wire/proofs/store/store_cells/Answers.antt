@@ -31,7 +31,7 @@ loop-rest-preserved g c =
       (
         cs ++ x ∷ [],
         one_more (vec_items c.push-in-Cell.new.self) (vec_items c.args.cells.now) cs _ x
-            (pushed (_ ∷ []) inv.1 c.in-ok-push.was c.push-in-Cell.ensures.items) c.in-Cell.cell_is,
+            (pushed (_ ∷ []) inv.1 c.in_ok-push.was c.push-in-Cell.ensures.items) c.in-Cell.cell_is,
         ap marks_of more
             ∙ marks_cell wide reading ps at bs left item goes x c.in-Cell.is marks all c.is_node.result inv.2
             (c.is_node.ensures ∙ ap (λ y. node_part (part_of y)) c.in-Cell.cell_is) (λ n. c.push.ensures (omega (arith, n, long))),
@@ -57,7 +57,7 @@ returns g c =
     let wide = g.L.WireLeaf.wide in
     let reading = g.L.WireLeaf.reading in
     let bs = c.loop-rest.rest.now in
-    let none = nil_from_length bs (eqb-true (length bs) 0 (sym c.is-empty.ensures ∙ c.loop-rest-test.false)) in (
+    let none = nil_from_length bs (eqb-true (length bs) 0 (sym c.is_empty.ensures ∙ c.loop-rest-test.false)) in (
       inv.0,
       inv.1,
       λ ps head body e.

@@ -6,15 +6,15 @@ use Rattle.wire.proofs.writer.put_book.Goals as goal
 pub loop-i-init : goal.loop-i-init
 loop-i-init g c = fills_none c.args.out.now
 
-pub put-entry-at-requires : goal.put-entry-at-requires
-put-entry-at-requires g c =
+pub put_entry-at-requires : goal.put_entry-at-requires
+put_entry-at-requires g c =
     let es = g.B.Book.entries c.args.book.now in
     room_next (entry_form g.L.WireLeaf.written) es c.loop-i.i refl c.loop-i.invariant c.requires
 
 pub loop-i-preserved : goal.loop-i-preserved
 loop-i-preserved g c =
     let es = g.B.Book.entries c.args.book.now in
-    fills_next (entry_form g.L.WireLeaf.written) es c.loop-i.i refl c.loop-i.invariant c.put-entry-at.ensures
+    fills_next (entry_form g.L.WireLeaf.written) es c.loop-i.i refl c.loop-i.invariant c.put_entry-at.ensures
 
 pub returns : goal.returns
 returns g c =

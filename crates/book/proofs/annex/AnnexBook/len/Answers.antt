@@ -9,6 +9,6 @@ returns g c =
     let few = at_most (g.A.Book.rules first) in
     let less = at_most (g.B.Book.rules second) in
     let e = annexed_count (g.A.Book.entries first) (g.B.Book.entries second) in
-    let s = c.saturating-add.ensures in
+    let s = c.saturating_add.ensures in
     let m = c.min.ensures in
     omega (arith, few, less, e, s, m, c.len.ensures, c.len-2.ensures)

@@ -6,12 +6,12 @@ use Rattle.std.proofs.iter.Next.{firm}
 
 pub returns : goal.returns
 returns c =
-    let text = c.in-ok-self.field-0 in
+    let text = c.in_ok-self.field-0 in
     let rest = c.cut.result.1 in
     let fewer : to_come rest < to_come (Some text) =
     fewer_to_come c.args.self.now.at text c.cut.result.0 rest c.cut.ensures
     in
     record {
       steps = tt;
-      goes = firm ((tt, tt, omega (arith, fewer, ap to_come c.in-ok-self.was))) (λ h. search rules);
+      goes = firm ((tt, tt, omega (arith, fewer, ap to_come c.in_ok-self.was))) (λ h. search rules);
     }

@@ -11,11 +11,11 @@ use Rattle.slate.proofs.Next.{refill}
 use Rattle.slate.proofs.Answering.{given, compare_not_in_use, compare_too_short, compare_kept}
 use Rattle.slate.proofs.slate.Slate.compare.Goals as goal
 
-pub returns-in-err-all-in-use : goal.returns-in-err-all-in-use
-returns-in-err-all-in-use g c =
-    let p = err_from_is_err_and c.from-residual.result c.from-residual.ensures.1 in
-    let h = c.in-err-all-in-use.ensures in
-    let e : c.from-residual.result ≡ Err (NotInUse h.0) = cc (p.1, p.2, h.1) in
+pub returns-in_err-all_in_use : goal.returns-in_err-all_in_use
+returns-in_err-all_in_use g c =
+    let p = err_from_is_err_and c.from_residual.result c.from_residual.ensures.1 in
+    let h = c.in_err-all_in_use.ensures in
+    let e : c.from_residual.result ≡ Err (NotInUse h.0) = cc (p.1, p.2, h.1) in
     record {
       kept = subst (λ r. Kept c.args.self.now c.args.self.now (compare c.args.left c.args.right
           (length c.args.work.now)) (same_or r)) (sym e)
@@ -24,45 +24,45 @@ returns-in-err-all-in-use g c =
       unaltered = refl;
     }
 
-pub returns-in-err-long-enough : goal.returns-in-err-long-enough
-returns-in-err-long-enough g c =
-    let p = err_from_is_err_and c.from-residual-in-err-long-enough.result c.from-residual-in-err-long-enough.ensures.1 in
-    let h = c.in-err-long-enough.ensures in
-    let e : c.from-residual-in-err-long-enough.result ≡ Err TooShort = cc (p.1, p.2, h.0) in
+pub returns-in_err-long_enough : goal.returns-in_err-long_enough
+returns-in_err-long_enough g c =
+    let p = err_from_is_err_and c.from_residual-in_err-long_enough.result c.from_residual-in_err-long_enough.ensures.1 in
+    let h = c.in_err-long_enough.ensures in
+    let e : c.from_residual-in_err-long_enough.result ≡ Err TooShort = cc (p.1, p.2, h.0) in
     record {
       kept = subst (λ r. Kept c.args.self.now c.args.self.now (compare c.args.left c.args.right
           (length c.args.work.now)) (same_or r)) (sym e)
           (compare_too_short c.args.self.now c.args.left c.args.right (length c.args.work.now)
-          c.in-ok-all-in-use.ensures
+          c.in_ok-all_in_use.ensures
           (subst (λ n. length c.args.work.now < 9 * capacity n) c.len.ensures h.1));
       unaltered = refl;
     }
 
-pub compare-first-equal-requires : goal.compare-first-equal-requires
-compare-first-equal-requires g c =
+pub compare_first-equal-requires : goal.compare_first-equal-requires
+compare_first-equal-requires g c =
     let s = c.args.self.now in
     record {
-      part = omega (arith, s.within, c.as-mut-slice.ensures.len);
+      part = omega (arith, s.within, c.as_mut_slice.ensures.len);
       given = subst (λ l. Given (take s.used l) c.args.work.now c.args.left c.args.right)
-          (sym c.as-mut-slice.ensures.value)
+          (sym c.as_mut_slice.ensures.value)
           (given (Coded-set g.row.L.coded) s c.args.work.now c.args.left c.args.right
-          c.in-ok-all-in-use.ensures
+          c.in_ok-all_in_use.ensures
           (subst (λ n. 9 * capacity n ≤ length c.args.work.now) c.len.ensures
-          c.in-ok-long-enough.ensures));
+          c.in_ok-long_enough.ensures));
     }
 
-pub invariant-of-self : goal.invariant-of-self
-invariant-of-self g c =
+pub invariant_of-self : goal.invariant_of-self
+invariant_of-self g c =
     let s = c.args.self.now in
-    let ws = c.compare-first-equal.new.cells in (
+    let ws = c.compare_first-equal.new.cells in (
       s.within,
       (
         s.few,
         (
           ∣ subst (λ l. WellFormed (take s.used l))
               (sym (refill (vec_len s.cells) (vec_items s.cells) ws s.cells.ok.0
-              (c.compare-first-equal.ensures.as_many ∙ ap length c.as-mut-slice.ensures.value)))
-              c.compare-first-equal.ensures.sound ∣₁,
+              (c.compare_first-equal.ensures.as_many ∙ ap length c.as_mut_slice.ensures.value)))
+              c.compare_first-equal.ensures.sound ∣₁,
           tt,
         ),
       ),
@@ -71,22 +71,22 @@ invariant-of-self g c =
 pub returns : goal.returns
 returns g c =
     let s = c.args.self.now in
-    let ws = c.compare-first-equal.new.cells in
+    let ws = c.compare_first-equal.new.cells in
     let left : cells_of (take s.used (take (vec_len s.cells) (ws ++ drop (length ws) (vec_items s.cells)))) ≡
     cells_of (take s.used (vec_items s.cells)) =
     ap (λ l. cells_of (take s.used l)) (refill (vec_len s.cells) (vec_items s.cells) ws s.cells.ok.0
-    (c.compare-first-equal.ensures.as_many ∙ ap length c.as-mut-slice.ensures.value))
-    ∙ (c.compare-first-equal.ensures.left ∙ ap (λ l. cells_of (take s.used l))
-    c.as-mut-slice.ensures.value) in
+    (c.compare_first-equal.ensures.as_many ∙ ap length c.as_mut_slice.ensures.value))
+    ∙ (c.compare_first-equal.ensures.left ∙ ap (λ l. cells_of (take s.used l))
+    c.as_mut_slice.ensures.value) in
     record {
       kept = compare_kept s _ c.args.left c.args.right (length c.args.work.now)
-          c.in-ok-all-in-use.ensures
+          c.in_ok-all_in_use.ensures
           (subst (λ n. 9 * capacity n ≤ length c.args.work.now) c.len.ensures
-          c.in-ok-long-enough.ensures) refl
-          c.compare-first-equal.result
+          c.in_ok-long_enough.ensures) refl
+          c.compare_first-equal.result
           (subst (λ l. Told (cells_of (take s.used l)) c.args.left c.args.right
-          c.compare-first-equal.result) c.as-mut-slice.ensures.value
-          c.compare-first-equal.ensures.told)
+          c.compare_first-equal.result) c.as_mut_slice.ensures.value
+          c.compare_first-equal.ensures.told)
           left;
       unaltered = left;
     }

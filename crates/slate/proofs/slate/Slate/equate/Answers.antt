@@ -13,97 +13,97 @@ use Rattle.slate.proofs.Next.{refill}
 use Rattle.slate.proofs.Answering.{given, equate_not_in_use, equate_too_short, equate_accepted, equate_refused}
 use Rattle.slate.proofs.slate.Slate.equate.Goals as goal
 
-pub returns-in-err-all-in-use : goal.returns-in-err-all-in-use
-returns-in-err-all-in-use g c =
-    let p = err_from_is_err_and c.from-residual.result c.from-residual.ensures.1 in
-    let h = c.in-err-all-in-use.ensures in
-    let e : c.from-residual.result ≡ Err (NotInUse h.0) = cc (p.1, p.2, h.1) in
+pub returns-in_err-all_in_use : goal.returns-in_err-all_in_use
+returns-in_err-all_in_use g c =
+    let p = err_from_is_err_and c.from_residual.result c.from_residual.ensures.1 in
+    let h = c.in_err-all_in_use.ensures in
+    let e : c.from_residual.result ≡ Err (NotInUse h.0) = cc (p.1, p.2, h.1) in
     subst (λ r. Kept c.args.self.now c.args.self.now (equate c.args.left c.args.right
     (length c.args.work.now)) (accepted_or r)) (sym e)
     (equate_not_in_use c.args.self.now c.args.left c.args.right (length c.args.work.now) h.0
     h.2)
 
-pub returns-in-err-long-enough : goal.returns-in-err-long-enough
-returns-in-err-long-enough g c =
-    let p = err_from_is_err_and c.from-residual-in-err-long-enough.result c.from-residual-in-err-long-enough.ensures.1 in
-    let h = c.in-err-long-enough.ensures in
-    let e : c.from-residual-in-err-long-enough.result ≡ Err TooShort = cc (p.1, p.2, h.0) in
+pub returns-in_err-long_enough : goal.returns-in_err-long_enough
+returns-in_err-long_enough g c =
+    let p = err_from_is_err_and c.from_residual-in_err-long_enough.result c.from_residual-in_err-long_enough.ensures.1 in
+    let h = c.in_err-long_enough.ensures in
+    let e : c.from_residual-in_err-long_enough.result ≡ Err TooShort = cc (p.1, p.2, h.0) in
     subst (λ r. Kept c.args.self.now c.args.self.now (equate c.args.left c.args.right
     (length c.args.work.now)) (accepted_or r)) (sym e)
     (equate_too_short c.args.self.now c.args.left c.args.right (length c.args.work.now)
-    c.in-ok-all-in-use.ensures
+    c.in_ok-all_in_use.ensures
     (subst (λ n. length c.args.work.now < 9 * capacity n) c.len.ensures h.1))
 
-pub unify-first-requires : goal.unify-first-requires
-unify-first-requires g c =
+pub unify_first-requires : goal.unify_first-requires
+unify_first-requires g c =
     let s = c.args.self.now in
     record {
-      part = omega (arith, s.within, c.as-mut-slice.ensures.len);
+      part = omega (arith, s.within, c.as_mut_slice.ensures.len);
       given = subst (λ l. Given (take s.used l) c.args.work.now c.args.left c.args.right)
-          (sym c.as-mut-slice.ensures.value)
+          (sym c.as_mut_slice.ensures.value)
           (given (Coded-set g.row.L.coded) s c.args.work.now c.args.left c.args.right
-          c.in-ok-all-in-use.ensures
+          c.in_ok-all_in_use.ensures
           (subst (λ n. 9 * capacity n ≤ length c.args.work.now) c.len.ensures
-          c.in-ok-long-enough.ensures));
+          c.in_ok-long_enough.ensures));
     }
 
-pub invariant-of-self : goal.invariant-of-self
-invariant-of-self g c =
+pub invariant_of-self : goal.invariant_of-self
+invariant_of-self g c =
     let s = c.args.self.now in
-    let ws = c.unify-first.new.cells in (
+    let ws = c.unify_first.new.cells in (
       s.within,
       (
         s.few,
         (
           ∣ subst (λ l. WellFormed (take s.used l))
               (sym (refill (vec_len s.cells) (vec_items s.cells) ws s.cells.ok.0
-              (c.unify-first.ensures.as_many ∙ ap length c.as-mut-slice.ensures.value)))
-              c.unify-first.ensures.sound ∣₁,
+              (c.unify_first.ensures.as_many ∙ ap length c.as_mut_slice.ensures.value)))
+              c.unify_first.ensures.sound ∣₁,
           tt,
         ),
       ),
     )
 
-pub returns-then-unify-first : goal.returns-then-unify-first
-returns-then-unify-first g c =
+pub returns-then-unify_first : goal.returns-then-unify_first
+returns-then-unify_first g c =
     let s = c.args.self.now in
-    let ws = c.unify-first.new.cells in
-    let trail = take c.unify-first.new.joined c.unify-first.new.trail in
+    let ws = c.unify_first.new.cells in
+    let trail = take c.unify_first.new.joined c.unify_first.new.trail in
     let long : 9 * capacity (vec_len s.cells) ≤ length c.args.work.now =
     subst (λ n. 9 * capacity n ≤ length c.args.work.now) c.len.ensures
-    c.in-ok-long-enough.ensures in
+    c.in_ok-long_enough.ensures in
     equate_accepted s _ c.args.left c.args.right (length c.args.work.now)
-    c.in-ok-all-in-use.ensures long refl
+    c.in_ok-all_in_use.ensures long refl
     (given_did g.L.Leaf.alike (decided g.L.Leaf.alike g.met.L.Leaf.decides) (take s.used (vec_items s.cells))
     c.args.work.now c.args.left c.args.right
     (given (Coded-set g.row.L.coded) s c.args.work.now c.args.left c.args.right
-    c.in-ok-all-in-use.ensures long)
+    c.in_ok-all_in_use.ensures long)
     _ trail true
     (subst₂ (λ l m. Unifies g.L.Leaf.alike (cells_of (take s.used l)) c.args.left c.args.right true
     (cells_of (take s.used m)) trail)
-    c.as-mut-slice.ensures.value
-    (sym (refill (vec_len s.cells) (vec_items s.cells) ws s.cells.ok.0 (c.unify-first.ensures.as_many
-    ∙ ap length c.as-mut-slice.ensures.value)))
-    c.if-unify-first.ensures.unifies))
+    c.as_mut_slice.ensures.value
+    (sym (refill (vec_len s.cells) (vec_items s.cells) ws s.cells.ok.0 (c.unify_first.ensures.as_many
+    ∙ ap length c.as_mut_slice.ensures.value)))
+    c.if-unify_first.ensures.unifies))
 
-pub returns-else-unify-first : goal.returns-else-unify-first
-returns-else-unify-first g c =
+pub returns-else-unify_first : goal.returns-else-unify_first
+returns-else-unify_first g c =
     let s = c.args.self.now in
-    let ws = c.unify-first.new.cells in
-    let trail = take c.unify-first.new.joined c.unify-first.new.trail in
+    let ws = c.unify_first.new.cells in
+    let trail = take c.unify_first.new.joined c.unify_first.new.trail in
     let long : 9 * capacity (vec_len s.cells) ≤ length c.args.work.now =
     subst (λ n. 9 * capacity n ≤ length c.args.work.now) c.len.ensures
-    c.in-ok-long-enough.ensures in
+    c.in_ok-long_enough.ensures in
     equate_refused s _ c.args.left c.args.right (length c.args.work.now)
-    c.in-ok-all-in-use.ensures long refl
+    c.in_ok-all_in_use.ensures long refl
     (given_did g.L.Leaf.alike (decided g.L.Leaf.alike g.met.L.Leaf.decides) (take s.used (vec_items s.cells))
     c.args.work.now c.args.left c.args.right
     (given (Coded-set g.row.L.coded) s c.args.work.now c.args.left c.args.right
-    c.in-ok-all-in-use.ensures long)
+    c.in_ok-all_in_use.ensures long)
     _ trail false
     (subst₂ (λ l m. Unifies g.L.Leaf.alike (cells_of (take s.used l)) c.args.left c.args.right false
     (cells_of (take s.used m)) trail)
-    c.as-mut-slice.ensures.value
-    (sym (refill (vec_len s.cells) (vec_items s.cells) ws s.cells.ok.0 (c.unify-first.ensures.as_many
-    ∙ ap length c.as-mut-slice.ensures.value)))
-    c.if-unify-first.ensures.unifies))
+    c.as_mut_slice.ensures.value
+    (sym (refill (vec_len s.cells) (vec_items s.cells) ws s.cells.ok.0 (c.unify_first.ensures.as_many
+    ∙ ap length c.as_mut_slice.ensures.value)))
+    c.if-unify_first.ensures.unifies))

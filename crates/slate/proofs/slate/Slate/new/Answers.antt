@@ -3,8 +3,8 @@ use Rattle.theory.proofs.CarriedSittings.{wiped}
 use Rattle.unify.proofs.Written.{none_solved}
 use Rattle.slate.proofs.slate.Slate.new.Goals as goal
 
-pub invariant-of-result : goal.invariant-of-result
-invariant-of-result g c = (omega arith, (omega arith, (∣ record { solved = none_solved; counted = tt } ∣₁, tt)))
+pub invariant_of-result : goal.invariant_of-result
+invariant_of-result g c = (omega arith, (omega arith, (∣ record { solved = none_solved; counted = tt } ∣₁, tt)))
 
 pub returns : goal.returns
 returns g c = record { wiped = record { none = refl; begins = wiped }; as_many = refl }

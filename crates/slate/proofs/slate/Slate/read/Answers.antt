@@ -8,6 +8,6 @@ returns g c = record {
   reads = reads (Coded-set g.row.L.coded) c.args.self.now c.args.cell c.if-self-cell.false
       c.lying-found.result
       (c.lying-found.ensures ∙ ap (λ l. get_or l c.args.cell c.lying-found.result)
-      c.as-slice.ensures.value);
+      c.as_slice.ensures.value);
   unchanged = refl;
 }

@@ -3,8 +3,8 @@ use Rattle.theory.proofs.CarriedSittings.{wiped}
 use Rattle.unify.proofs.Written.{none_solved}
 use Rattle.slate.proofs.slate.Slate.wipe.Goals as goal
 
-pub invariant-of-self : goal.invariant-of-self
-invariant-of-self g c = (omega arith, (omega arith, (∣ record { solved = none_solved; counted = tt } ∣₁, tt)))
+pub invariant_of-self : goal.invariant_of-self
+invariant_of-self g c = (omega arith, (omega arith, (∣ record { solved = none_solved; counted = tt } ∣₁, tt)))
 
 pub returns : goal.returns
 returns g c = record { wiped = record { none = refl; begins = wiped }; as_many = refl }

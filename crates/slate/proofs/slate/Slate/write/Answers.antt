@@ -4,8 +4,8 @@ use Rattle.cells.specs.Cells.{cells_of, WellFormed}
 use Rattle.slate.proofs.Next.{sound_out, next_cells, next_sound, after_put}
 use Rattle.slate.proofs.slate.Slate.write.Goals as goal
 
-pub invariant-of-self : goal.invariant-of-self
-invariant-of-self g c =
+pub invariant_of-self : goal.invariant_of-self
+invariant_of-self g c =
     let s = c.args.self.now in
     let xs = vec_items s.cells in
     let room : s.used < min (vec_len s.cells) 2048 = omega (
@@ -20,8 +20,8 @@ invariant-of-self g c =
         omega (arith, room),
         (
           ∣ subst (λ l. WellFormed (take (s.used + 1) l))
-              (sym (after_put (vec_len s.cells) s.used xs c.as-mut-slice.result.now c.put.new.cells
-              c.args.content s.cells.ok.0 c.as-mut-slice.ensures.value c.put.ensures))
+              (sym (after_put (vec_len s.cells) s.used xs c.as_mut_slice.result.now c.put.new.cells
+              c.args.content s.cells.ok.0 c.as_mut_slice.ensures.value c.put.ensures))
               (next_sound xs s.used c.args.content inside (omega (arith, room))
               (sound_out (Coded-set g.row.L.coded) (take s.used xs) s.sound) c.requires.counted
               c.requires.writable) ∣₁,
@@ -44,8 +44,8 @@ returns g c =
       refl,
       room,
       ap (λ l. cells_of (take (s.used + 1) l))
-          (after_put (vec_len s.cells) s.used xs c.as-mut-slice.result.now c.put.new.cells
-          c.args.content s.cells.ok.0 c.as-mut-slice.ensures.value c.put.ensures)
+          (after_put (vec_len s.cells) s.used xs c.as_mut_slice.result.now c.put.new.cells
+          c.args.content s.cells.ok.0 c.as_mut_slice.ensures.value c.put.ensures)
           ∙ next_cells xs s.used c.args.content inside,
       refl,
     )

@@ -4,7 +4,7 @@ use Rattle.slate.proofs.slate.writes.packed.Goals as goal
 
 pub returns : goal.returns
 returns c = record {
-  is = take_at c.copy-from-slice.new.self _ (length c.args.args.now)
-      (ap length c.copy-from-slice.ensures.after) ∙ c.copy-from-slice.ensures.after;
-  four = simp (length-append, length-drop) (omega (arith, ap length c.copy-from-slice.ensures.after));
+  is = take_at c.copy_from_slice.new.self _ (length c.args.args.now)
+      (ap length c.copy_from_slice.ensures.after) ∙ c.copy_from_slice.ensures.after;
+  four = simp (length-append, length-drop) (omega (arith, ap length c.copy_from_slice.ensures.after));
 }
