@@ -16,7 +16,7 @@ pub fn register_bytes(heap: Global) -> Result<Vec<u8>, WritingError>
 {
     let rules = rules(heap)?;
     let book = TableBook::<AccessionNumber>::new(rules.rows.as_slice(), rules.cells.as_slice());
-    form_bytes::<AccessionNumber, TableBookBook<AccessionNumber>>(heap, &book)
+    form_bytes::<AccessionNumber, TableBook<AccessionNumber>>(heap, &book)
 }
 
 // The book that the bytes are read as. It has no fault.

@@ -55,7 +55,7 @@ fn prints(
 fn the_book_has_eight_entries(rt: HostRuntime) -> Result<(), Fail> {
     let heap = rt.alloc();
     let book = register_book(heap)?;
-    let text = list_text::<AccessionNumber, ByteBookBook<AccessionNumber>>(
+    let text = list_text::<AccessionNumber, ByteBook<AccessionNumber>>(
         heap,
         &book,
         book.fault(),

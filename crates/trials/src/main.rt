@@ -58,7 +58,7 @@ fn writes_back<L: WireLeaf>(
 ) -> anyhow::Result<bool> {
     let mut out = vec![in heap; 0; bytes.len()]?;
     let whole = book.fault().is_none();
-    match write::<L, ByteBookBook<L>>(book, &mut out) {
+    match write::<L, ByteBook<L>>(book, &mut out) {
         Ok(count) => Ok(
             count <= bytes.len()
                 && out.as_slice().starts_with(&bytes[0..count])

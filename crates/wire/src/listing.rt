@@ -40,7 +40,7 @@ fn bytes_text<L: WireLeaf>(heap: Global, bytes: &[u8]) -> Result<String, AllocEr
 {
     let book = ByteBook::<L>::open(heap, bytes)?;
     let fault = book.fault();
-    list_text::<L, ByteBookBook<L>>(heap, &book, fault)
+    list_text::<L, ByteBook<L>>(heap, &book, fault)
 }
 
 // Lists the bytes of a book into the first bytes of the output, and says how many they are.

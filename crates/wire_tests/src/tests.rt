@@ -34,13 +34,13 @@ fn forms_fit_or_are_refused(rt: HostRuntime) -> Result<(), Fail> {
     let book = Sample::open(rt.alloc(), &SAMPLE)?;
     let mut out = [7; 18];
     assert_eq!(rt;
-        write::<AccessionNumber, ByteBookBook<AccessionNumber>>(&book, &mut out),
+        write::<AccessionNumber, ByteBook<AccessionNumber>>(&book, &mut out),
         Ok(16)
     );
     assert!(rt; out[0..16] == SAMPLE[0..16] && out[16] == 7 && out[17] == 7);
     let mut short = [7; 15];
     assert_eq!(rt;
-        write::<AccessionNumber, ByteBookBook<AccessionNumber>>(&book, &mut short),
+        write::<AccessionNumber, ByteBook<AccessionNumber>>(&book, &mut short),
         Err(WriteRefusal::ShortOutput)
     );
     assert!(rt; short[0..15] == [7; 15]);
@@ -75,8 +75,8 @@ fn annexes_too_long_for_bytes_are_refused(rt: HostRuntime) -> Result<(), Fail> {
             AccessionNumber,
             AnnexBook<
                 AccessionNumber,
-                ByteBookBook<AccessionNumber>,
-                ByteBookBook<AccessionNumber>,
+                ByteBook<AccessionNumber>,
+                ByteBook<AccessionNumber>,
             >,
         >(&book, &mut out),
         Err(WriteRefusal::TooMuch)

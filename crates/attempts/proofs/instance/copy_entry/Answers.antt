@@ -56,7 +56,7 @@ loop-j-preserved g c =
             length-set xs (base + j) (record { content = d; joined = None }) ∙ inv.2,
           )
       | in_default w ↦
-          absurd (nth_there ps j (omega (arith, c.loop-j-test.true, c.requires.whole)) (sym (w.in-default.ensures ∙ cell_is o j)))
+          absurd (nth_there ps j (omega (arith, c.loop-j-test.true, c.requires.whole)) (sym (w.in_default.ensures ∙ cell_is o j)))
     ]
 
 pub returns : goal.returns

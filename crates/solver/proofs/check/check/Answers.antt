@@ -80,19 +80,15 @@ replay_and_retract-requires g c =
 pub invariant_of-slate : goal.invariant_of-slate
 invariant_of-slate g c =
     let s = c.args.slate.now in
-    let ws = c.replay_and_retract.new.cells in (
-      s.within,
-      (
-        s.few,
-        (
-          ∣ subst (λ l. WellFormed (take s.used l))
+    let ws = c.replay_and_retract.new.cells in
+    record {
+      within = s.within;
+      few = s.few;
+      sound = ∣ subst (λ l. WellFormed (take s.used l))
               (sym (refill (vec_len s.cells) (vec_items s.cells) ws s.cells.ok.0
               (c.replay_and_retract.ensures.as_many ∙ ap length c.as_mut_slice.ensures.value)))
-              c.replay_and_retract.ensures.sound ∣₁,
-          tt,
-        ),
-      ),
-    )
+              c.replay_and_retract.ensures.sound ∣₁;
+    }
 
 pub returns : goal.returns
 returns g c =

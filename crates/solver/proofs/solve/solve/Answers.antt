@@ -88,19 +88,15 @@ invariant_of-slate g c =
     let ws = c.run-end.new.cells in
     let used : c.run-end.result.used ≤ c.min.result = c.run-end.ensures.used in
     let m : c.min.result ≡ min c.len.result 2048 = c.min.ensures in
-    let l : c.len.result ≡ vec_len s.cells = c.len.ensures in (
-      omega arith,
-      (
-        omega arith,
-        (
-          ∣ subst (λ x. WellFormed (take c.run-end.result.used x))
+    let l : c.len.result ≡ vec_len s.cells = c.len.ensures in
+    record {
+      within = omega arith;
+      few = omega arith;
+      sound = ∣ subst (λ x. WellFormed (take c.run-end.result.used x))
               (sym (refill (vec_len s.cells) (vec_items s.cells) ws s.cells.ok.0
               (c.run-end.ensures.as_many ∙ ap length c.as_mut_slice.ensures.value)))
-              c.run-end.ensures.sound ∣₁,
-          tt,
-        ),
-      ),
-    )
+              c.run-end.ensures.sound ∣₁;
+    }
 
 pub returns : goal.returns
 returns g c =

@@ -37,7 +37,7 @@ loop-rest-preserved g c =
         _,
         marks_cell wide reading ps at bs left item goes c.in-Cell.cell c.in-Cell.is marks
             (take c.push.new.self.count c.push.new.self.marks) c.is_node.result inv.1
-            (c.is_node.ensures ∙ ap (λ x. node_part (part_of x)) c.in-Cell.cell_is) (λ n. c.push.ensures (omega (arith, n, long))),
+            (c.is_node.ensures ∙ ap (λ x. node_part (part_of x)) c.in-Cell.cell-is) (λ n. c.push.ensures (omega (arith, n, long))),
         inv.2 ∙ goes_to wide reading ps at bs left item goes c.in-Cell.cell c.in-Cell.is,
       ),
     )

@@ -9,8 +9,8 @@ returns-in_err-field g c ps m =
     fault_item _ c.from_residual.result c.args.place c.args.place c.args.entry _ _
     (err_from_is_err_and c.from_residual.result c.from_residual.ensures.1) h.0 refl (h.1 ps)
 
-pub returns-in_err-room : goal.returns-in_err-room
-returns-in_err-room g c ps m =
+pub returns-in_err-room-in-Variable : goal.returns-in_err-room-in-Variable
+returns-in_err-room-in-Variable g c ps m =
     let wide = g.L.WireLeaf.wide in
     let reading = g.L.WireLeaf.reading in
     let marks = c.args.nodes.now in
@@ -19,14 +19,14 @@ returns-in_err-room g c ps m =
     let bs = c.args.split.now.contents.now in
     let field = c.in_ok-field.field in
     let is_field = c.in_ok-field.ensures in
-    let h = c.in_err-room.ensures in
-    fault_item _ c.from_residual-in_err-room.result place c.in-Variable.place c.args.entry _ _
-    (err_from_is_err_and c.from_residual-in_err-room.result c.from_residual-in_err-room.ensures.1) h.1
+    let h = c.in_err-room-in-Variable.ensures in
+    fault_item _ c.from_residual-in_err-room-in-Variable.result place c.in-Variable.place c.args.entry _ _
+    (err_from_is_err_and c.from_residual-in_err-room-in-Variable.result c.from_residual-in_err-room-in-Variable.ensures.1) h.1
     (variable_place wide reading ps marks m place tag bs field is_field c.in-Variable.place c.in-Variable.is)
     (no_room_variable wide reading ps marks m place tag bs field is_field c.in-Variable.place c.in-Variable.is h.0)
 
-pub returns-in_ok-room : goal.returns-in_ok-room
-returns-in_ok-room g c ps m =
+pub returns-in_ok-room-in-Variable : goal.returns-in_ok-room-in-Variable
+returns-in_ok-room-in-Variable g c ps m =
     let wide = g.L.WireLeaf.wide in
     let reading = g.L.WireLeaf.reading in
     let marks = c.args.nodes.now in
@@ -35,10 +35,10 @@ returns-in_ok-room g c ps m =
     let bs = c.args.split.now.contents.now in
     let field = c.in_ok-field.field in
     let is_field = c.in_ok-field.ensures in
-    a_variable wide reading ps marks m place tag bs field is_field c.in-Variable.place c.in-Variable.is c.in_ok-room.ensures
+    a_variable wide reading ps marks m place tag bs field is_field c.in-Variable.place c.in-Variable.is c.in_ok-room-in-Variable.ensures
 
-pub returns-in_err-room-2 : goal.returns-in_err-room-2
-returns-in_err-room-2 g c ps m =
+pub returns-in_err-room-in-Leaf : goal.returns-in_err-room-in-Leaf
+returns-in_err-room-in-Leaf g c ps m =
     let wide = g.L.WireLeaf.wide in
     let reading = g.L.WireLeaf.reading in
     let marks = c.args.nodes.now in
@@ -47,14 +47,14 @@ returns-in_err-room-2 g c ps m =
     let bs = c.args.split.now.contents.now in
     let field = c.in_ok-field.field in
     let is_field = c.in_ok-field.ensures in
-    let h = c.in_err-room-2.ensures in
-    fault_item _ c.from_residual-in_err-room-2.result place c.in-Leaf.place c.args.entry _ _
-    (err_from_is_err_and c.from_residual-in_err-room-2.result c.from_residual-in_err-room-2.ensures.1) h.1
+    let h = c.in_err-room-in-Leaf.ensures in
+    fault_item _ c.from_residual-in_err-room-in-Leaf.result place c.in-Leaf.place c.args.entry _ _
+    (err_from_is_err_and c.from_residual-in_err-room-in-Leaf.result c.from_residual-in_err-room-in-Leaf.ensures.1) h.1
     (leaf_place wide reading ps marks m place tag bs field is_field c.in-Leaf.place c.in-Leaf.bytes c.in-Leaf.is)
     (no_room_leaf wide reading ps marks m place tag bs field is_field c.in-Leaf.place c.in-Leaf.bytes c.in-Leaf.is h.0)
 
-pub returns-in_err-value : goal.returns-in_err-value
-returns-in_err-value g c ps m =
+pub returns-in_err-value-in-Leaf : goal.returns-in_err-value-in-Leaf
+returns-in_err-value-in-Leaf g c ps m =
     let wide = g.L.WireLeaf.wide in
     let reading = g.L.WireLeaf.reading in
     let marks = c.args.nodes.now in
@@ -63,14 +63,14 @@ returns-in_err-value g c ps m =
     let bs = c.args.split.now.contents.now in
     let field = c.in_ok-field.field in
     let is_field = c.in_ok-field.ensures in
-    let h = c.in_err-value.ensures in
-    fault_item _ c.from_residual-in_err-value.result place c.in-Leaf.place c.args.entry _ _
-    (err_from_is_err_and c.from_residual-in_err-value.result c.from_residual-in_err-value.ensures.1) h.1
+    let h = c.in_err-value-in-Leaf.ensures in
+    fault_item _ c.from_residual-in_err-value-in-Leaf.result place c.in-Leaf.place c.args.entry _ _
+    (err_from_is_err_and c.from_residual-in_err-value-in-Leaf.result c.from_residual-in_err-value-in-Leaf.ensures.1) h.1
     (leaf_place wide reading ps marks m place tag bs field is_field c.in-Leaf.place c.in-Leaf.bytes c.in-Leaf.is)
-    (a_leaf wide reading ps marks m place tag bs field is_field c.in-Leaf.place c.in-Leaf.bytes c.in-Leaf.is None c.in_ok-room-2.ensures h.0)
+    (a_leaf wide reading ps marks m place tag bs field is_field c.in-Leaf.place c.in-Leaf.bytes c.in-Leaf.is None c.in_ok-room-in-Leaf.ensures h.0)
 
-pub returns-in_ok-value : goal.returns-in_ok-value
-returns-in_ok-value g c ps m =
+pub returns-in_ok-value-in-Leaf : goal.returns-in_ok-value-in-Leaf
+returns-in_ok-value-in-Leaf g c ps m =
     let wide = g.L.WireLeaf.wide in
     let reading = g.L.WireLeaf.reading in
     let marks = c.args.nodes.now in
@@ -79,11 +79,11 @@ returns-in_ok-value g c ps m =
     let bs = c.args.split.now.contents.now in
     let field = c.in_ok-field.field in
     let is_field = c.in_ok-field.ensures in
-    a_leaf wide reading ps marks m place tag bs field is_field c.in-Leaf.place c.in-Leaf.bytes c.in-Leaf.is (Some c.in_ok-value.value) c.in_ok-room-2.ensures
-    c.in_ok-value.ensures
+    a_leaf wide reading ps marks m place tag bs field is_field c.in-Leaf.place c.in-Leaf.bytes c.in-Leaf.is (Some c.in_ok-value-in-Leaf.value) c.in_ok-room-in-Leaf.ensures
+    c.in_ok-value-in-Leaf.ensures
 
-pub returns-in_err-room-3 : goal.returns-in_err-room-3
-returns-in_err-room-3 g c ps m =
+pub returns-in_err-room-in-Node : goal.returns-in_err-room-in-Node
+returns-in_err-room-in-Node g c ps m =
     let wide = g.L.WireLeaf.wide in
     let reading = g.L.WireLeaf.reading in
     let marks = c.args.nodes.now in
@@ -92,14 +92,14 @@ returns-in_err-room-3 g c ps m =
     let bs = c.args.split.now.contents.now in
     let field = c.in_ok-field.field in
     let is_field = c.in_ok-field.ensures in
-    let h = c.in_err-room-3.ensures in
-    fault_item _ c.from_residual-in_err-room-3.result place c.in-Node.place c.args.entry _ _
-    (err_from_is_err_and c.from_residual-in_err-room-3.result c.from_residual-in_err-room-3.ensures.1) h.1
+    let h = c.in_err-room-in-Node.ensures in
+    fault_item _ c.from_residual-in_err-room-in-Node.result place c.in-Node.place c.args.entry _ _
+    (err_from_is_err_and c.from_residual-in_err-room-in-Node.result c.from_residual-in_err-room-in-Node.ensures.1) h.1
     (node_place wide reading ps marks m place tag bs field is_field c.in-Node.place c.in-Node.symbol c.in-Node.args c.in-Node.is)
     (no_room_node wide reading ps marks m place tag bs field is_field c.in-Node.place c.in-Node.symbol c.in-Node.args c.in-Node.is h.0)
 
-pub returns-in_err-node : goal.returns-in_err-node
-returns-in_err-node g c ps m =
+pub returns-in_err-node-in-Node : goal.returns-in_err-node-in-Node
+returns-in_err-node-in-Node g c ps m =
     let wide = g.L.WireLeaf.wide in
     let reading = g.L.WireLeaf.reading in
     let marks = c.args.nodes.now in
@@ -108,14 +108,14 @@ returns-in_err-node g c ps m =
     let bs = c.args.split.now.contents.now in
     let field = c.in_ok-field.field in
     let is_field = c.in_ok-field.ensures in
-    let h = c.in_err-node.ensures in
-    fault_item _ c.from_residual-in_err-node.result place c.in-Node.place c.args.entry _ _
-    (err_from_is_err_and c.from_residual-in_err-node.result c.from_residual-in_err-node.ensures.1) h.1
+    let h = c.in_err-node-in-Node.ensures in
+    fault_item _ c.from_residual-in_err-node-in-Node.result place c.in-Node.place c.args.entry _ _
+    (err_from_is_err_and c.from_residual-in_err-node-in-Node.result c.from_residual-in_err-node-in-Node.ensures.1) h.1
     (node_place wide reading ps marks m place tag bs field is_field c.in-Node.place c.in-Node.symbol c.in-Node.args c.in-Node.is)
-    (bad_node wide reading ps marks m place tag bs field is_field c.in-Node.place c.in-Node.symbol c.in-Node.args c.in-Node.is c.in_ok-room-3.ensures h.0)
+    (bad_node wide reading ps marks m place tag bs field is_field c.in-Node.place c.in-Node.symbol c.in-Node.args c.in-Node.is c.in_ok-room-in-Node.ensures h.0)
 
-pub returns-in_ok-node : goal.returns-in_ok-node
-returns-in_ok-node g c ps m =
+pub returns-in_ok-node-in-Node : goal.returns-in_ok-node-in-Node
+returns-in_ok-node-in-Node g c ps m =
     let wide = g.L.WireLeaf.wide in
     let reading = g.L.WireLeaf.reading in
     let marks = c.args.nodes.now in
@@ -124,12 +124,12 @@ returns-in_ok-node g c ps m =
     let bs = c.args.split.now.contents.now in
     let field = c.in_ok-field.field in
     let is_field = c.in_ok-field.ensures in
-    let h = c.in_ok-node.ensures in
-    a_node wide reading ps marks m place tag bs field is_field c.in-Node.place c.in-Node.symbol c.in-Node.args c.in-Node.is c.in_ok-node.node c.in_ok-room-3.ensures
+    let h = c.in_ok-node-in-Node.ensures in
+    a_node wide reading ps marks m place tag bs field is_field c.in-Node.place c.in-Node.symbol c.in-Node.args c.in-Node.is c.in_ok-node-in-Node.node c.in_ok-room-in-Node.ensures
     h.0 h.1 h.2
 
-pub returns-in_err-goals : goal.returns-in_err-goals
-returns-in_err-goals g c ps m =
+pub returns-in_err-goals-in-Goals : goal.returns-in_err-goals-in-Goals
+returns-in_err-goals-in-Goals g c ps m =
     let wide = g.L.WireLeaf.wide in
     let reading = g.L.WireLeaf.reading in
     let marks = c.args.nodes.now in
@@ -138,14 +138,14 @@ returns-in_err-goals g c ps m =
     let bs = c.args.split.now.contents.now in
     let field = c.in_ok-field.field in
     let is_field = c.in_ok-field.ensures in
-    let h = c.in_err-goals.ensures in
-    fault_item _ c.from_residual-in_err-goals.result place c.in-Goals.place c.args.entry _ _
-    (err_from_is_err_and c.from_residual-in_err-goals.result c.from_residual-in_err-goals.ensures.1) h.1
+    let h = c.in_err-goals-in-Goals.ensures in
+    fault_item _ c.from_residual-in_err-goals-in-Goals.result place c.in-Goals.place c.args.entry _ _
+    (err_from_is_err_and c.from_residual-in_err-goals-in-Goals.result c.from_residual-in_err-goals-in-Goals.ensures.1) h.1
     (goals_place wide reading ps marks m place tag bs field is_field c.in-Goals.place c.in-Goals.head c.in-Goals.body c.in-Goals.is)
     (bad_goals wide reading ps marks m place tag bs field is_field c.in-Goals.place c.in-Goals.head c.in-Goals.body c.in-Goals.is h.0)
 
-pub returns-in_ok-goals : goal.returns-in_ok-goals
-returns-in_ok-goals g c ps m =
+pub returns-in_ok-goals-in-Goals : goal.returns-in_ok-goals-in-Goals
+returns-in_ok-goals-in-Goals g c ps m =
     let wide = g.L.WireLeaf.wide in
     let reading = g.L.WireLeaf.reading in
     let marks = c.args.nodes.now in
@@ -154,5 +154,5 @@ returns-in_ok-goals g c ps m =
     let bs = c.args.split.now.contents.now in
     let field = c.in_ok-field.field in
     let is_field = c.in_ok-field.ensures in
-    let h = c.in_ok-goals.ensures in
+    let h = c.in_ok-goals-in-Goals.ensures in
     a_goals wide reading ps marks m place tag bs field is_field c.in-Goals.place c.in-Goals.head c.in-Goals.body c.in-Goals.is _ _ h.0 h.1 h.2

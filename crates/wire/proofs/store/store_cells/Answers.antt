@@ -31,10 +31,10 @@ loop-rest-preserved g c =
       (
         cs ++ x ∷ [],
         one_more (vec_items c.push-in-Cell.new.self) (vec_items c.args.cells.now) cs _ x
-            (pushed (_ ∷ []) inv.1 c.in_ok-push.was c.push-in-Cell.ensures.items) c.in-Cell.cell_is,
+            (pushed (_ ∷ []) inv.1 c.in_ok-push-in-Cell.was c.push-in-Cell.ensures.items) c.in-Cell.cell-is,
         ap marks_of more
             ∙ marks_cell wide reading ps at bs left item goes x c.in-Cell.is marks all c.is_node.result inv.2
-            (c.is_node.ensures ∙ ap (λ y. node_part (part_of y)) c.in-Cell.cell_is) (λ n. c.push.ensures (omega (arith, n, long))),
+            (c.is_node.ensures ∙ ap (λ y. node_part (part_of y)) c.in-Cell.cell-is) (λ n. c.push.ensures (omega (arith, n, long))),
         inv.3 ∙ goes_to wide reading ps at bs left item goes x c.in-Cell.is
             ∙ ap (λ qs. ending_of wide reading qs (at + (length bs - length left)) left) (sym more),
       ),

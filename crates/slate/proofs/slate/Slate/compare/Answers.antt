@@ -54,19 +54,15 @@ compare_first-equal-requires g c =
 pub invariant_of-self : goal.invariant_of-self
 invariant_of-self g c =
     let s = c.args.self.now in
-    let ws = c.compare_first-equal.new.cells in (
-      s.within,
-      (
-        s.few,
-        (
-          ∣ subst (λ l. WellFormed (take s.used l))
-              (sym (refill (vec_len s.cells) (vec_items s.cells) ws s.cells.ok.0
-              (c.compare_first-equal.ensures.as_many ∙ ap length c.as_mut_slice.ensures.value)))
-              c.compare_first-equal.ensures.sound ∣₁,
-          tt,
-        ),
-      ),
-    )
+    let ws = c.compare_first-equal.new.cells in
+    record {
+      within = s.within;
+      few = s.few;
+      sound = ∣ subst (λ l. WellFormed (take s.used l))
+          (sym (refill (vec_len s.cells) (vec_items s.cells) ws s.cells.ok.0
+          (c.compare_first-equal.ensures.as_many ∙ ap length c.as_mut_slice.ensures.value)))
+          c.compare_first-equal.ensures.sound ∣₁;
+    }
 
 pub returns : goal.returns
 returns g c =

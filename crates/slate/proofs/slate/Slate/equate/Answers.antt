@@ -50,19 +50,15 @@ unify_first-requires g c =
 pub invariant_of-self : goal.invariant_of-self
 invariant_of-self g c =
     let s = c.args.self.now in
-    let ws = c.unify_first.new.cells in (
-      s.within,
-      (
-        s.few,
-        (
-          ∣ subst (λ l. WellFormed (take s.used l))
-              (sym (refill (vec_len s.cells) (vec_items s.cells) ws s.cells.ok.0
-              (c.unify_first.ensures.as_many ∙ ap length c.as_mut_slice.ensures.value)))
-              c.unify_first.ensures.sound ∣₁,
-          tt,
-        ),
-      ),
-    )
+    let ws = c.unify_first.new.cells in
+    record {
+      within = s.within;
+      few = s.few;
+      sound = ∣ subst (λ l. WellFormed (take s.used l))
+          (sym (refill (vec_len s.cells) (vec_items s.cells) ws s.cells.ok.0
+          (c.unify_first.ensures.as_many ∙ ap length c.as_mut_slice.ensures.value)))
+          c.unify_first.ensures.sound ∣₁;
+    }
 
 pub returns-then-unify_first : goal.returns-then-unify_first
 returns-then-unify_first g c =

@@ -14,21 +14,17 @@ invariant_of-self g c =
       c.len.ensures,
       c.if-min-used.false,
     ) in
-    let inside : s.used < length xs = omega (arith, s.cells.ok.0) in (
-      omega (arith, room),
-      (
-        omega (arith, room),
-        (
-          ∣ subst (λ l. WellFormed (take (s.used + 1) l))
-              (sym (after_put (vec_len s.cells) s.used xs c.as_mut_slice.result.now c.put.new.cells
-              c.args.content s.cells.ok.0 c.as_mut_slice.ensures.value c.put.ensures))
-              (next_sound xs s.used c.args.content inside (omega (arith, room))
-              (sound_out (Coded-set g.row.L.coded) (take s.used xs) s.sound) c.requires.counted
-              c.requires.writable) ∣₁,
-          tt,
-        ),
-      ),
-    )
+    let inside : s.used < length xs = omega (arith, s.cells.ok.0) in
+    record {
+      within = omega (arith, room);
+      few = omega (arith, room);
+      sound = ∣ subst (λ l. WellFormed (take (s.used + 1) l))
+          (sym (after_put (vec_len s.cells) s.used xs c.as_mut_slice.result.now c.put.new.cells
+          c.args.content s.cells.ok.0 c.as_mut_slice.ensures.value c.put.ensures))
+          (next_sound xs s.used c.args.content inside (omega (arith, room))
+          (sound_out (Coded-set g.row.L.coded) (take s.used xs) s.sound) c.requires.counted
+          c.requires.writable) ∣₁;
+    }
 
 pub returns : goal.returns
 returns g c =

@@ -10,7 +10,9 @@ use Rattle.wire.proofs.byte_book.ByteBook.open.Goals as goal
 pub invariant_of-result : goal.invariant_of-result
 invariant_of-result g c =
     let none = ap (row_entries (vec_items c.new-cells.result)) c.new-rows.ensures.items in
-    (∣ subst BookRules (sym none) (record { few = omega arith; entries = tt }) ∣₁, tt)
+    record {
+      keeps = ∣ subst BookRules (sym none) (record { few = omega arith; entries = tt }) ∣₁;
+    }
 
 pub returns-then-bytes-gt-MOST_BYTES : goal.returns-then-bytes-gt-MOST_BYTES
 returns-then-bytes-gt-MOST_BYTES g c =
@@ -24,7 +26,9 @@ invariant_of-result-2 g c =
     let bs = c.args.bytes.now in
     let bytes : Bytes bs = All-from_get_or (λ b. b < 256) bs 0 (λ i h. omega (arith, c.type_inv.bytes i)) in
     let rules = row_rules g.L.WireLeaf.wide g.L.WireLeaf.reading 0 0 bs (omega arith) bytes in
-    (∣ subst BookRules c.in_ok-fault.ensures.0 rules ∣₁, tt)
+    record {
+      keeps = ∣ subst BookRules c.in_ok-fault.ensures.0 rules ∣₁;
+    }
 
 pub returns : goal.returns
 returns g c =
