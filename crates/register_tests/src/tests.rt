@@ -1,7 +1,7 @@
 use book::interface::Book;
 use calls::call::Call;
 use leaf::accession_number::AccessionNumber;
-use register::book::{register_book, register_bytes};
+use register::rule_book::{register_book, register_bytes};
 use register::clients::{resending, retrying, unheard};
 use std::alloc::Global;
 use std::process::Abort;

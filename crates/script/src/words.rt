@@ -83,7 +83,7 @@ pub fn cells(heap: Global, words: Pieces) -> Result<Vec<u16>, LineFault> {
 pub fn cells_to_colon(heap: Global, words: &mut Pieces) -> Result<Vec<u16>, LineFault> {
     let mut cells = Vec::new(heap);
     while let Some(word) = words.next() {
-        if word == b":" {
+        if word == b":".as_slice() {
             return Ok(cells);
         }
         cells.push(short_number(word)?)?;
