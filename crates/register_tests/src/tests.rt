@@ -1,11 +1,11 @@
-use book::interface::Book;
 use calls::call::Call;
 use leaf::accession_number::AccessionNumber;
-use register::rule_book::{register_book, register_bytes};
 use register::clients::{resending, retrying, unheard};
+use register::rule_book::{register_book, register_bytes};
 use std::alloc::Global;
 use std::process::Abort;
 use std::test::Fail;
+use wire::byte_book::ByteBook;
 use wire::listing::list_text;
 
 // One co-fact and seven clauses.
@@ -55,11 +55,7 @@ fn prints(
 fn the_book_has_eight_entries(rt: HostRuntime) -> Result<(), Fail> {
     let heap = rt.alloc();
     let book = register_book(heap)?;
-    let text = list_text::<AccessionNumber, ByteBook<AccessionNumber>>(
-        heap,
-        &book,
-        book.fault(),
-    )?;
+    let text = list_text::<AccessionNumber, ByteBook<AccessionNumber>>(heap, &book, book.fault())?;
     assert_eq!(rt; text.as_str(), LISTING);
     Ok(())
 }

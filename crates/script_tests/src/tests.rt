@@ -30,12 +30,15 @@ fn reads_as(
 
 // The script is faulty at that line.
 fn fails_at(rt: &impl Abort, heap: Global, text: &[u8], number: usize) -> Result<(), Fail> {
+    assert_eq!(rt; error_of(heap, text)?, ScriptError::Line { number });
+    Ok(())
+}
+
+// The error of a text that is no script.
+fn error_of(heap: Global, text: &[u8]) -> Result<ScriptError, Fail> {
     match parse(heap, text) {
         Ok(_) => Err(Fail::new("the script was read")),
-        Err(error) => {
-            assert_eq!(rt; error, ScriptError::Line { number });
-            Ok(())
-        },
+        Err(error) => Ok(error),
     }
 }
 
@@ -211,7 +214,8 @@ fn bad_lines_are_found(rt: HostRuntime) -> Result<(), Fail> {
     ];
     for line in lines {
         let text = format!(in heap; "slate 1\n{line}\nopen")?;
-        fails_at(&rt, heap, text.as_bytes(), 2).note(line)?;
+        let error = error_of(heap, text.as_bytes())?;
+        assert_eq!(rt; error, ScriptError::Line { number: 2 }, "{line}");
     }
     Ok(())
 }

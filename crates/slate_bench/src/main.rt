@@ -23,8 +23,8 @@ type Terms = Slate<AccessionNumber>;
 // Why a term could not be built or timed.
 fn refused(refusal: Refusal) -> anyhow::Error {
     match refusal.number() {
-        20 => "the slate is full".into(),
-        _ => "a call was refused".into(),
+        20 => anyhow!("the slate is full"),
+        _ => anyhow!("a call was refused"),
     }
 }
 

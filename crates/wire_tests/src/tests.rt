@@ -19,13 +19,13 @@ fn listings_fit_or_are_refused(rt: HostRuntime) {
         list::<AccessionNumber>(rt.alloc(), &SAMPLE, &mut out),
         Ok(23)
     );
-    assert!(rt; &out[0..25] == b"0 cofact 2 0\nentries 1\n..");
+    assert!(rt; &out[0..25] == b"0 cofact 2 0\nentries 1\n..".as_slice());
     let mut short = [b'.'; 22];
     assert_eq!(rt;
         list::<AccessionNumber>(rt.alloc(), &SAMPLE, &mut short),
         Err(ListRefusal::ShortOutput)
     );
-    assert!(rt; &short[0..22] == b"......................");
+    assert!(rt; &short[0..22] == b"......................".as_slice());
     assert_eq!(rt; ListRefusal::ShortOutput.number(), Some(14));
 }
 
@@ -71,14 +71,9 @@ fn annexes_too_long_for_bytes_are_refused(rt: HostRuntime) -> Result<(), Fail> {
     assert_eq!(rt; book.len(), 286);
     let mut out = [7; 3];
     assert_eq!(rt;
-        write::<
-            AccessionNumber,
-            AnnexBook<
-                AccessionNumber,
-                ByteBook<AccessionNumber>,
-                ByteBook<AccessionNumber>,
-            >,
-        >(&book, &mut out),
+        write::<AccessionNumber, Annex<ByteBook<AccessionNumber>, ByteBook<AccessionNumber>>,>(
+            &book, &mut out
+        ),
         Err(WriteRefusal::TooMuch)
     );
     assert!(rt; out[0..3] == [7; 3]);
