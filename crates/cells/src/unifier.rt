@@ -1,7 +1,7 @@
 // Unifying and comparing two cells, with a trail of those that were joined.
 ghost use Rattle.std.specs.Prelude.{◌≡◌, ◌≤◌, length, take};
 ghost use Rattle.cells.specs.Cells.{cells_of, WellFormed};
-ghost use Rattle.cells.specs.Loops.{Given, Unifies, Told};
+ghost use Rattle.cells.specs.Loops.{Given, Unifies, Did, Told};
 
 use crate::cell::Cell;
 use crate::joins::join;
@@ -20,6 +20,7 @@ fn unify<L: Leaf>(
     requires { Given cells.old trail.old a b }
     ensures unifies { Unifies L.Leaf.alike (cells_of cells.old) a b result
         (cells_of cells.new) (take joined.new trail.new) }
+    ensures did { Did (cells_of cells.old) (cells_of cells.new) a b result }
     ensures sound { WellFormed cells.new }
     ensures inside { joined.new ≤ length trail.new }
 {
@@ -57,6 +58,8 @@ pub fn unify_first<L: Leaf>(
     requires given { Given (take used cells.old) trail.old a b }
     ensures unifies { Unifies L.Leaf.alike (cells_of (take used cells.old)) a b result
         (cells_of (take used cells.new)) (take joined.new trail.new) }
+    ensures did { Did (cells_of (take used cells.old))
+        (cells_of (take used cells.new)) a b result }
     ensures sound { WellFormed (take used cells.new) }
     ensures as_many { length cells.new ≡ length cells.old }
     ensures inside { joined.new ≤ length trail.new }

@@ -19,19 +19,24 @@ use Rattle.slate.specs.declared.slate.Slate.{Slate}
 use Rattle.cells.specs.Cells.{cell_of, lying}
 use Rattle.cells.specs.Loops.{Given, Did, Told}
 use Rattle.slate.specs.Refusals.{refusal_of}
-use Rattle.slate.specs.Slates.{supplied, in_use, on_slate, Refuses, Kept, wrote_or, same_or, Written}
+use Rattle.slate.specs.Slates.{supplied, in_use, on_slate, Refuses, Kept, CarriesOn, wrote_or, same_or, Written}
 use Rattle.slate.proofs.Unused.{all_used}
 use Rattle.slate.proofs.Next.{sound_out}
 use Rattle.slate.proofs.Standing.{means_known, number_known, stands_for, stands_written}
 
 module _ {L : Type 0} where
   -- a call that is right over every book carries sittings on over every book
+  pub carries_on : {old new : Slate L} {c : Call L} {a : Answer} → Kept old new c a → CarriesOn old new c a
+  carries_on {old} {new} {c} {a} k = record {
+    over = λ book rules. carries book rules (supplied old) (on_slate old) (on_slate new) c a (k.right book);
+  }
+
+  -- what a call that is right over every book keeps
   pub kept : {old new : Slate L} {c : Call L} {a : Answer} →
       ((book : List (Entry L)) → RightCall book (supplied old) (on_slate old) c a (on_slate new)) →
       supplied new ≡ supplied old → (Refuses a → in_use new ≡ in_use old) → Kept old new c a
   kept {old} {new} {c} {a} r m u = record {
     right = r;
-    carries = λ book rules. carries book rules (supplied old) (on_slate old) (on_slate new) c a (r book);
     as_many = m;
     unaltered = u;
   }

@@ -46,12 +46,13 @@ Refuses (refused r) = Unit {0}
 -- is known after it; a refused call leaves it unaltered
 pub record Kept {L : Type 0} (old new : Slate L) (c : Call L) (a : Answer) : Type 0 where
   pub right : (book : List (Entry L)) → RightCall book (supplied old) (on_slate old) c a (on_slate new)
-  -- whatever right sitting has led to the old slate, over any book, it goes on rightly with this call, keeps the law,
-  -- and leads to the new one
-  pub carries : (book : List (Entry L)) → BookRules book →
-      Carries book (supplied old) (on_slate old) c a (on_slate new)
   pub as_many : supplied new ≡ supplied old
   pub unaltered : Refuses a → in_use new ≡ in_use old
+
+-- whatever right sitting has led to the old slate, over any book, it goes on rightly with this call, keeps the law,
+-- and leads to the new one
+pub record CarriesOn {L : Type 0} (old new : Slate L) (c : Call L) (a : Answer) : Type 0 where
+  pub over : (book : List (Entry L)) → BookRules book → Carries book (supplied old) (on_slate old) c a (on_slate new)
 
 -- the answer is one that leaves the slate unaltered
 abbrev pub Leaves : Answer → Type 0

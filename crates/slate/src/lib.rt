@@ -6,3 +6,5 @@ pub mod limits;
 pub mod meaning;
 pub mod refusal;
 pub mod slate;
+
+pub use cells::cell;

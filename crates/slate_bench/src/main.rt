@@ -2,8 +2,8 @@
 #![tactic(auto)]
 
 use anyhow::anyhow;
-use cells::cell::{Cell, Content};
 use leaf::accession_number::AccessionNumber;
+use slate::cell::{Cell, Content};
 use slate::refusal::Refusal;
 use slate::slate::Slate;
 use std::alloc::Global;

@@ -1,5 +1,5 @@
-use cells::cell::{Cell, CellKind, Content};
 use leaf::accession_number::AccessionNumber;
+use slate::cell::{Cell, CellKind, Content};
 use slate::refusal::Refusal;
 use slate::slate::Slate;
 use std::alloc::{AllocError, Global};

@@ -14,17 +14,17 @@ use Rattle.theory.proofs.OneBookProof.{rules_out}
 use Rattle.calls.specs.declared.answer.Answer.{Answer}
 use Rattle.calls.specs.Answers.{answer_of}
 use Rattle.slate.specs.declared.slate.Slate.{Slate}
-use Rattle.slate.specs.Slates.{supplied, on_slate, Kept, KeptOver}
+use Rattle.slate.specs.Slates.{supplied, on_slate, Kept, CarriesOn, KeptOver}
 use Rattle.calls.specs.declared.call.Call.{Call}
 use Rattle.solver.specs.Sitting.{lent, history, Sitting, Made, Sat}
 
 module _ {L : Type 0} (book : List (Entry L)) (rules : ∥ BookRules book ∥₁) (old new : Slate L) (c c' : T.Call L)
     (a : T.Answer) (same : c ≡ c') where
   -- a call that asks no book
-  pub made_kept : {E : Type 0} (v : Answer) → Kept old new c a → answer_of v ≡ a → Made {E = E} book old new c' (Ok v)
-  made_kept v k e = record {
+  pub made_kept : {E : Type 0} (v : Answer) → Kept old new c a → CarriesOn old new c a → answer_of v ≡ a → Made {E = E} book old new c' (Ok v)
+  made_kept v k o e = record {
     answer = a;
-    carries = subst (λ z. Carries book (supplied old) (on_slate old) z a (on_slate new)) same (k.carries book (rules_out rules));
+    carries = subst (λ z. Carries book (supplied old) (on_slate old) z a (on_slate new)) same (o.over book (rules_out rules));
     as_many = k.as_many;
     is = e;
   }

@@ -4,10 +4,10 @@ use Rattle.std.specs.List.{slice_get, AllByRecursion}
 use Rattle.unify.specs.Cells.{Cell, unjoined}
 use Rattle.unify.specs.Solved.{Solved}
 use Rattle.unify.specs.Unify.{State, Move, went, clash, start, next, after, meet, pay, turn, settle, rest, join, unify}
-use Rattle.unify.specs.Steady.{Steady, StaysSteady, WentOn, reached}
+use Rattle.unify.specs.Steady.{Steady, StaysTrailed, WentOn, reached}
 use Rattle.unify.specs.Theorems.{Decides, Unified, Agreed}
 use Rattle.unify.proofs.Places.{nth_inside}
-use Rattle.unify.proofs.Steadiness.{start_steady, next_steady, meet_steady, pay_steady}
+use Rattle.unify.proofs.Steadiness.{start_steady, next_steady, meet_trailed, pay_trailed}
 use Rattle.unify.proofs.Unified.{unify_right}
 
 module _ {V : Type 0} where
@@ -20,22 +20,22 @@ module _ {V : Type 0} where
   ran_refl : (s : State V) → Steady s → Ran s s
   ran_refl s st = record { steady = st; number = refl; kept = refl }
 
-  ran_step : (s t : State V) → StaysSteady s t → Ran s t
-  ran_step s t g = record { steady = g.steady; number = g.number; kept = g.kept }
+  ran_step : (s t : State V) → StaysTrailed s t → Ran s t
+  ran_step s t g = record { steady = g.stays.steady; number = g.stays.number; kept = g.kept }
 
   ran_trans : (s t u : State V) → Ran s t → Ran t u → Ran s u
   ran_trans s t u g h = record { steady = h.steady; number = h.number ∙ g.number; kept = h.kept ∙ g.kept }
 
-  ran_next : (s t : State V) → StaysSteady s t → s.place < length s.trail → Ran s (next t)
+  ran_next : (s t : State V) → StaysTrailed s t → s.place < length s.trail → Ran s (next t)
   unfolding next
   ran_next s t g h = record {
-    steady = next_steady t g.steady (omega (arith, g.place, g.longer));
-    number = g.number;
+    steady = next_steady t g.stays.steady (omega (arith, g.stays.place, g.stays.longer));
+    number = g.stays.number;
     kept = g.kept;
   }
 
-  ran_after : (s : State V) (m : Move V) (step : State V → Move V) → StaysSteady s (reached m) →
-      ((t : State V) → StaysSteady s t → Ran s (reached (step t))) → Ran s (reached (after m step))
+  ran_after : (s : State V) (m : Move V) (step : State V → Move V) → StaysTrailed s (reached m) →
+      ((t : State V) → StaysTrailed s t → Ran s (reached (step t))) → Ran s (reached (after m step))
   unfolding after
   ran_after s (went t) step g f = f t g
   ran_after s (clash t) step g f = ran_step s t g
@@ -46,7 +46,7 @@ module _ {V : Type 0} (same : V → V → Bool) (open_joins : Bool) where
   unfolding turn
   turn_ran go f s st None e = ran_refl s st
   turn_ran go f s st (Some i) e =
-      ran_after s (pay same open_joins s i) (λ t. go (next t)) (pay_steady same open_joins s st i)
+      ran_after s (pay same open_joins s i) (λ t. go (next t)) (pay_trailed same open_joins s st i)
       (λ t g. let h : Ran s (next t) = ran_next s t g (nth_inside s.trail s.place i e) in
       ran_trans s (next t) (reached (go (next t))) h (f (next t) h.steady))
 
@@ -66,8 +66,8 @@ module _ {V : Type 0} (same : V → V → Bool) (open_joins : Bool) where
   join_ran cells ok a b ha hb =
       let s : State V = start cells in
       let st : Steady s = start_steady cells ok in
-      ran_after s (meet same open_joins s a b) (rest same open_joins) (meet_steady same open_joins s st a b ha hb)
-      (λ t g. ran_trans s t (reached (rest same open_joins t)) (ran_step s t g) (rest_ran t g.steady))
+      ran_after s (meet same open_joins s a b) (rest same open_joins) (meet_trailed same open_joins s st a b ha hb)
+      (λ t g. ran_trans s t (reached (rest same open_joins t)) (ran_step s t g) (rest_ran t g.stays.steady))
 
 -- where unifying went on
 pub went_on : {V : Type 0} (same : V → V → Bool) → Decides same → (cells : List (Cell V)) → Solved cells → (a b : ℕ) →

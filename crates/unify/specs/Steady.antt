@@ -20,12 +20,16 @@ module _ {V : Type 0} where
   reached (went s) = s
   reached (clash s) = s
 
-  -- steady, with as many cells as before, at the same place of a trail that is no shorter; each cell joined is on it
+  -- steady, with as many cells as before, at the same place of a trail that is no shorter
   pub record StaysSteady (s t : State V) : Type 0 where
     pub steady : Steady t
     pub number : length t.cells ≡ length s.cells
     pub place : t.place ≡ s.place
     pub longer : length s.trail ≤ length t.trail
+
+  -- steady so, and each cell joined is on the trail
+  pub record StaysTrailed (s t : State V) : Type 0 where
+    pub stays : StaysSteady s t
     pub kept : unjoined t.cells + length t.trail ≡ unjoined s.cells + length s.trail
 
   -- what a run that went on leaves: as many cells, solved again, and the trail of those that it joined, which taken

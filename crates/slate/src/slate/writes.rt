@@ -3,7 +3,7 @@ ghost use Rattle.std.specs.Prelude.{◌≡◌, ◌≤◌, length, take, vec_len}
 ghost use Rattle.theory.specs.Calls.{write_open, write_leaf, write_node};
 ghost use Rattle.unify.specs.Writing.{Writable};
 ghost use Rattle.cells.specs.Cells.{content_of, Counted};
-ghost use Rattle.slate.specs.Slates.{in_use, supplied, Wiped, Kept, wrote_or, Written};
+ghost use Rattle.slate.specs.Slates.{in_use, supplied, Wiped, Kept, CarriesOn, wrote_or, Written};
 
 use crate::input::all_in_use;
 use crate::limits::{MOST_ARGUMENTS, MOST_CELLS};
@@ -58,21 +58,25 @@ impl<L: Leaf> Slate<L> {
 
     // Writes an open cell, and returns its number.
     pub fn open(&mut self) -> Result<u16, Refusal>
-        ensures { Kept self.old self.new write_open (wrote_or result) }
+        ensures kept { Kept self.old self.new write_open (wrote_or result) }
+        ensures carries { CarriesOn self.old self.new write_open (wrote_or result) }
     {
         self.write(Content::Open)
     }
 
     // Writes a leaf, and returns its number.
     pub fn leaf(&mut self, value: L) -> Result<u16, Refusal>
-        ensures { Kept self.old self.new (write_leaf value) (wrote_or result) }
+        ensures kept { Kept self.old self.new (write_leaf value) (wrote_or result) }
+        ensures carries { CarriesOn self.old self.new (write_leaf value) (wrote_or result) }
     {
         self.write(Content::Leaf(value))
     }
 
     // Writes a node over at most four cells in use, and returns its number.
     pub fn node(&mut self, symbol: u16, args: &[u16]) -> Result<u16, Refusal>
-        ensures { Kept self.old self.new
+        ensures kept { Kept self.old self.new
+            (write_node symbol args.now) (wrote_or result) }
+        ensures carries { CarriesOn self.old self.new
             (write_node symbol args.now) (wrote_or result) }
     {
         if args.len() > MOST_ARGUMENTS {

@@ -3,7 +3,7 @@ use Rattle.std.specs.List.{AllByRecursion}
 use Rattle.cells.specs.Cells.{cells_of}
 use Rattle.cells.specs.Loops.{state}
 use Rattle.cells.proofs.Sameness.{decided}
-use Rattle.cells.proofs.Steps.{number, agreed, refused, solved_after}
+use Rattle.cells.proofs.Steps.{number, agreed, refused, did, solved_after}
 use Rattle.cells.proofs.unifier.unify.Goals as goal
 
 pub clear-requires : goal.clear-requires
@@ -26,6 +26,8 @@ returns-then-join g c =
     c.if-join.ensures.is.1 in
     record {
       unifies = z;
+      did = did same law old c.requires.sound.solved c.args.a c.args.b a_in b_in
+          (cells_of c.join.new.cells) (take c.join.new.used c.join.new.trail) true z;
       sound = record {
         solved = solved_after same law old c.requires.sound.solved c.args.a c.args.b a_in b_in
             (cells_of c.join.new.cells) (take c.join.new.used c.join.new.trail) true z;
@@ -47,6 +49,8 @@ returns g c =
     c.if-join.ensures.is.1 (cells_of c.clear.new.cells) c.clear.ensures.is trail in
     record {
       unifies = z;
+      did = did same law old c.requires.sound.solved c.args.a c.args.b a_in b_in
+          (cells_of c.clear.new.cells) trail false z;
       sound = record {
         solved = solved_after same law old c.requires.sound.solved c.args.a c.args.b a_in b_in
             (cells_of c.clear.new.cells) trail false z;

@@ -85,9 +85,9 @@ invariant_of-slate g c =
       within = s.within;
       few = s.few;
       sound = ∣ subst (λ l. WellFormed (take s.used l))
-              (sym (refill (vec_len s.cells) (vec_items s.cells) ws s.cells.ok.0
-              (c.replay_and_retract.ensures.as_many ∙ ap length c.as_mut_slice.ensures.value)))
-              c.replay_and_retract.ensures.sound ∣₁;
+          (sym (refill (vec_len s.cells) (vec_items s.cells) ws s.cells.ok.0
+          (c.replay_and_retract.ensures.as_many ∙ ap length c.as_mut_slice.ensures.value)))
+          c.replay_and_retract.ensures.sound ∣₁;
     }
 
 pub returns : goal.returns

@@ -12,14 +12,14 @@ returns-in-Open g c =
     made_kept (g.B.Book.entries c.args.book.now) (g.B.Book.rules c.args.book.now) c.args.slate.now
     c.open.new.self _ _ (wrote_or c.open.result)
     (sym (ap (lent (length c.args.steps.now) (length c.args.work.now) (length c.args.frames.now)) c.in-Open.is))
-    c.wrote.result c.open.ensures c.wrote.ensures
+    c.wrote.result c.open.ensures.kept c.open.ensures.carries c.wrote.ensures
 
 pub returns-in-Leaf : goal.returns-in-Leaf
 returns-in-Leaf g c =
     made_kept (g.B.Book.entries c.args.book.now) (g.B.Book.rules c.args.book.now) c.args.slate.now
     c.leaf.new.self _ _ (wrote_or c.leaf.result)
     (sym (ap (lent (length c.args.steps.now) (length c.args.work.now) (length c.args.frames.now)) c.in-Leaf.is))
-    c.wrote-in-Leaf.result c.leaf.ensures c.wrote-in-Leaf.ensures
+    c.wrote-in-Leaf.result c.leaf.ensures.kept c.leaf.ensures.carries c.wrote-in-Leaf.ensures
 
 pub returns-in-Node : goal.returns-in-Node
 returns-in-Node g c =
@@ -27,7 +27,7 @@ returns-in-Node g c =
     c.node.new.self _ _ (wrote_or c.node.result)
     (ap (write_node c.in-Node.symbol) c.as_slice.ensures.value
     ∙ sym (ap (lent (length c.args.steps.now) (length c.args.work.now) (length c.args.frames.now)) c.in-Node.is))
-    c.wrote-in-Node.result c.node.ensures c.wrote-in-Node.ensures
+    c.wrote-in-Node.result c.node.ensures.kept c.node.ensures.carries c.wrote-in-Node.ensures
 
 pub returns-in-Equate : goal.returns-in-Equate
 returns-in-Equate g c =
@@ -36,7 +36,7 @@ returns-in-Equate g c =
     (ap (equate c.in-Equate.left c.in-Equate.right)
     (lent_length c.in-Equate.n c.min-room.result c.args.work.now c.min-room.ensures)
     ∙ sym (ap (lent (length c.args.steps.now) (length c.args.work.now) (length c.args.frames.now)) c.in-Equate.is))
-    c.equated.result c.equate.ensures c.equated.ensures
+    c.equated.result c.equate.ensures.kept c.equate.ensures.carries c.equated.ensures
 
 pub returns-in-Compare : goal.returns-in-Compare
 returns-in-Compare g c =
@@ -45,7 +45,7 @@ returns-in-Compare g c =
     (ap (compare c.in-Compare.left c.in-Compare.right)
     (lent_length c.in-Compare.n c.min-room-in-Compare.result c.args.work.now c.min-room-in-Compare.ensures)
     ∙ sym (ap (lent (length c.args.steps.now) (length c.args.work.now) (length c.args.frames.now)) c.in-Compare.is))
-    c.compared.result c.compare.ensures.kept c.compared.ensures
+    c.compared.result c.compare.ensures.kept c.compare.ensures.carries c.compared.ensures
 
 pub returns-in-Check : goal.returns-in-Check
 returns-in-Check g c =

@@ -93,9 +93,9 @@ invariant_of-slate g c =
       within = omega arith;
       few = omega arith;
       sound = ∣ subst (λ x. WellFormed (take c.run-end.result.used x))
-              (sym (refill (vec_len s.cells) (vec_items s.cells) ws s.cells.ok.0
-              (c.run-end.ensures.as_many ∙ ap length c.as_mut_slice.ensures.value)))
-              c.run-end.ensures.sound ∣₁;
+          (sym (refill (vec_len s.cells) (vec_items s.cells) ws s.cells.ok.0
+          (c.run-end.ensures.as_many ∙ ap length c.as_mut_slice.ensures.value)))
+          c.run-end.ensures.sound ∣₁;
     }
 
 pub returns : goal.returns

@@ -8,7 +8,7 @@ use Rattle.cells.specs.Cells.{cells_of, WellFormed}
 use Rattle.cells.specs.Loops.{Given, Told}
 use Rattle.slate.specs.Slates.{Kept, same_or}
 use Rattle.slate.proofs.Next.{refill}
-use Rattle.slate.proofs.Answering.{given, compare_not_in_use, compare_too_short, compare_kept}
+use Rattle.slate.proofs.Answering.{carries_on, given, compare_not_in_use, compare_too_short, compare_kept}
 use Rattle.slate.proofs.slate.Slate.compare.Goals as goal
 
 pub returns-in_err-all_in_use : goal.returns-in_err-all_in_use
@@ -21,6 +21,10 @@ returns-in_err-all_in_use g c =
           (length c.args.work.now)) (same_or r)) (sym e)
           (compare_not_in_use c.args.self.now c.args.left c.args.right (length c.args.work.now)
           h.0 h.2);
+      carries = carries_on (subst (λ r. Kept c.args.self.now c.args.self.now (compare c.args.left c.args.right
+          (length c.args.work.now)) (same_or r)) (sym e)
+          (compare_not_in_use c.args.self.now c.args.left c.args.right (length c.args.work.now)
+          h.0 h.2));
       unaltered = refl;
     }
 
@@ -35,6 +39,11 @@ returns-in_err-long_enough g c =
           (compare_too_short c.args.self.now c.args.left c.args.right (length c.args.work.now)
           c.in_ok-all_in_use.ensures
           (subst (λ n. length c.args.work.now < 9 * capacity n) c.len.ensures h.1));
+      carries = carries_on (subst (λ r. Kept c.args.self.now c.args.self.now (compare c.args.left c.args.right
+          (length c.args.work.now)) (same_or r)) (sym e)
+          (compare_too_short c.args.self.now c.args.left c.args.right (length c.args.work.now)
+          c.in_ok-all_in_use.ensures
+          (subst (λ n. length c.args.work.now < 9 * capacity n) c.len.ensures h.1)));
       unaltered = refl;
     }
 
@@ -84,5 +93,14 @@ returns g c =
           c.compare_first-equal.result) c.as_mut_slice.ensures.value
           c.compare_first-equal.ensures.told)
           left;
+      carries = carries_on (compare_kept s _ c.args.left c.args.right (length c.args.work.now)
+          c.in_ok-all_in_use.ensures
+          (subst (λ n. 9 * capacity n ≤ length c.args.work.now) c.len.ensures
+          c.in_ok-long_enough.ensures) refl
+          c.compare_first-equal.result
+          (subst (λ l. Told (cells_of (take s.used l)) c.args.left c.args.right
+          c.compare_first-equal.result) c.as_mut_slice.ensures.value
+          c.compare_first-equal.ensures.told)
+          left);
       unaltered = left;
     }
