@@ -84,7 +84,7 @@ module _ {L : Type 0} (alike : L → L → Bool) (law : Decides alike) (book : L
       pub inside : n < length frames
       inside =
           let h : m.at.depth ≤ b.steps = run.depth in
-          let k : b.steps ≤ length frames = run.ground.framed in
+          let k : b.steps ≤ length frames = run.basis.framed in
           omega arith
 
       at : slice_get frames n ≡ Some f
@@ -103,7 +103,7 @@ module _ {L : Type 0} (alike : L → L → Bool) (law : Decides alike) (book : L
       less =
           let t = at_goal.represents.level.tells n f at (omega arith) in
           let e : end_of book f ≤ length cs = t.end in
-          let a : f.used ≤ end_of book f = end_after book rules goals b.first cells₀ run.ground.low f in
+          let a : f.used ≤ end_of book f = end_after book rules goals b.first cells₀ run.basis.low f in
           let k : length cs ≡ x₀.used = number alike law book rules goals b cells₀ cells work frames m run in
           omega arith
 
@@ -153,15 +153,15 @@ module _ {L : Type 0} (alike : L → L → Bool) (law : Decides alike) (book : L
           (take-take f.trail x₀.trail work fewer) back)) in
           let ok : Running alike book goals b cells₀ cells' work frames m₁ =
           record {
-            ground = record {
-              few_goals = run.ground.few_goals;
-              low = run.ground.low;
-              begin = run.ground.begin;
-              fits = subst (λ k. b.cells ≤ k) (sym r.as_many) run.ground.fits;
-              few = run.ground.few;
-              long = run.ground.long;
-              framed = run.ground.framed;
-              short = run.ground.short;
+            basis = record {
+              few_goals = run.basis.few_goals;
+              low = run.basis.low;
+              begin = run.basis.begin;
+              fits = subst (λ k. b.cells ≤ k) (sym r.as_many) run.basis.fits;
+              few = run.basis.few;
+              long = run.basis.long;
+              framed = run.basis.framed;
+              short = run.basis.short;
             };
             filled = record {
               sound = r.sound;

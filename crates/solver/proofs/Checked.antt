@@ -126,7 +126,7 @@ ready_for s goals record_steps work frames few short ok sound =
     let m : supplied s ≡ length (vec_items s.cells) = s.cells.ok.0 in
     let w : 9 * capacity (supplied s) ≤ length work = ok.long in
     record {
-      ground = record {
+      basis = record {
         few_goals = few;
         low = ok.low;
         begin = begin;

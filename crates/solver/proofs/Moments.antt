@@ -197,7 +197,7 @@ module _ {L : Type 0} (alike : L → L → Bool) (law : Decides alike) (book : L
   ts = take x₀.trail work
 
   pub used_fits : x₀.used ≤ length cells
-  used_fits = let h : x₀.used ≤ b.cells = run.filled.used in let k : b.cells ≤ length cells = run.ground.fits in omega arith
+  used_fits = let h : x₀.used ≤ b.cells = run.filled.used in let k : b.cells ≤ length cells = run.basis.fits in omega arith
 
   pub number : length cs ≡ x₀.used
   number = in_use_number x₀.used cells used_fits
@@ -213,7 +213,7 @@ module _ {L : Type 0} (alike : L → L → Bool) (law : Decides alike) (book : L
       omega arith
 
   pub short : m.at.depth ≤ 4096
-  short = let h : m.at.depth ≤ b.steps = run.depth in let k : b.steps ≤ 4096 = run.ground.short in omega arith
+  short = let h : m.at.depth ≤ b.steps = run.depth in let k : b.steps ≤ 4096 = run.basis.short in omega arith
 
   -- a search where it stands, by other names for the same
   moved : {fs fs' : List Frame} {k k' : ℕ} {g g' : Option Goal} {c c' : Cursor} {ds ds' : List (C.Cell L)} {us us' : List ℕ} →
@@ -238,7 +238,7 @@ module _ {L : Type 0} (alike : L → L → Bool) (law : Decides alike) (book : L
       (Rattle.solver.specs.Searching.frame_steps (take m.at.depth frames))) cs →
       Finished alike book goals b cells₀ cells work frames m e
   finished e ends = record {
-    ground = run.ground;
+    basis = run.basis;
     filled = run.filled;
     depth = run.depth;
     ends = ends;
@@ -272,7 +272,7 @@ module _ {L : Type 0} (alike : L → L → Bool) (law : Decides alike) (book : L
       -- what the try comes to by the definitions
       on : Onto alike book b.first n₀ r₀ cs goal u₀.first u₀.rest x (size_at book x)
           (copied (λ j. length cs + j) cs (parts_for book x)) (target book frames (length cs) x)
-      on = onto alike law book rules goals b.first cells₀ run.ground.low frames n₀ r₀ here.spot.point.steps cs ts
+      on = onto alike law book rules goals b.first cells₀ run.basis.low frames n₀ r₀ here.spot.point.steps cs ts
           here.represents.level goal u₀ lower₀ x may
 
       -- the budget is spent
@@ -312,7 +312,7 @@ module _ {L : Type 0} (alike : L → L → Bool) (law : Decides alike) (book : L
             few : length cs + size_at book x ≤ 2048
             few =
                 let h : x₀.used + size_at book x ≤ b.cells = whole in
-                let k : b.cells ≤ 2048 = run.ground.few in
+                let k : b.cells ≤ 2048 = run.basis.few in
                 let e : length cs ≡ x₀.used = number in
                 omega arith
 
@@ -329,25 +329,25 @@ module _ {L : Type 0} (alike : L → L → Bool) (law : Decides alike) (book : L
                 let h : x₀.used + size_at book x ≤ b.cells = whole in
                 let e : length cs ≡ x₀.used = number in
                 let i : goal.cell < length cs =
-                goal_low alike law book rules goals b.first cells₀ run.ground.low frames n₀ r₀ here.spot.point.steps cs ts
+                goal_low alike law book rules goals b.first cells₀ run.basis.low frames n₀ r₀ here.spot.point.steps cs ts
                 here.represents.level goal u₀ lower₀ x may in
                 let low : x₀.trail ≤ x₀.used = trail_low in
-                let g1 : b.cells ≤ length cells = run.ground.fits in
-                let g2 : b.cells ≤ 2048 = run.ground.few in
-                let g3 : 2 * b.cells ≤ length work = run.ground.long in
-                let g4 : b.steps ≤ length frames = run.ground.framed in
-                let g5 : b.steps ≤ 4096 = run.ground.short in
+                let g1 : b.cells ≤ length cells = run.basis.fits in
+                let g2 : b.cells ≤ 2048 = run.basis.few in
+                let g3 : 2 * b.cells ≤ length work = run.basis.long in
+                let g4 : b.steps ≤ length frames = run.basis.framed in
+                let g5 : b.steps ≤ 4096 = run.basis.short in
                 let g6 : n₀ < b.steps = below in
                 record {
                   pending = r₀.pending;
                   current = u₀;
                   lower = lower₀;
-                  few_goals = run.ground.few_goals;
+                  few_goals = run.basis.few_goals;
                   room = omega arith;
                   few_steps = omega arith;
                   try = record {
                     formed = subst (λ k. Formed book frames k x) number
-                        (formed alike law book rules goals b.first cells₀ run.ground.low frames n₀ r₀ here.spot.point.steps
+                        (formed alike law book rules goals b.first cells₀ run.basis.low frames n₀ r₀ here.spot.point.steps
                         cs ts here.represents.level goal u₀ lower₀ x may);
                     tryable = record {
                       sound = run.filled.sound;
@@ -368,17 +368,17 @@ module _ {L : Type 0} (alike : L → L → Bool) (law : Decides alike) (book : L
               ts' = take at'.extent.trail work'
 
               -- the lists are as long as they were
-              ground' : length cells' ≡ length cells → length work' ≡ length work → length frames' ≡ length frames →
+              basis' : length cells' ≡ length cells → length work' ≡ length work → length frames' ≡ length frames →
                   Ground goals b cells' work' frames'
-              ground' p q w = record {
-                few_goals = run.ground.few_goals;
-                low = run.ground.low;
-                begin = run.ground.begin;
-                fits = let h : b.cells ≤ length cells = run.ground.fits in omega arith;
-                few = run.ground.few;
-                long = let h : 2 * b.cells ≤ length work = run.ground.long in omega arith;
-                framed = let h : b.steps ≤ length frames = run.ground.framed in omega arith;
-                short = run.ground.short;
+              basis' p q w = record {
+                few_goals = run.basis.few_goals;
+                low = run.basis.low;
+                begin = run.basis.begin;
+                fits = let h : b.cells ≤ length cells = run.basis.fits in omega arith;
+                few = run.basis.few;
+                long = let h : 2 * b.cells ≤ length work = run.basis.long in omega arith;
+                framed = let h : b.steps ≤ length frames = run.basis.framed in omega arith;
+                short = run.basis.short;
               }
 
               -- the step falls
@@ -393,7 +393,7 @@ module _ {L : Type 0} (alike : L → L → Bool) (law : Decides alike) (book : L
                   let t : State L = s.tried.tried.0.0 in
                   let same : at'.depth ≡ m.at.depth = ap (λ (z : Standing). z.depth) ae in (
                     record {
-                      ground = ground' s.tried.as_many s.tried.as_long s.as_long;
+                      basis = basis' s.tried.as_many s.tried.as_long s.as_long;
                       filled = record {
                         sound = s.tried.sound;
                         used = subst (λ (z : Standing). z.extent.used ≤ b.cells) (sym ae) run.filled.used;
@@ -427,17 +427,17 @@ module _ {L : Type 0} (alike : L → L → Bool) (law : Decides alike) (book : L
                   ap (λ k. unify alike (copied (λ j. length cs + j) cs (parts_for book x)) goal.cell (target book frames k x))
                   number ∙ s.tried.tried.1 in
                   let up : WentOn (copied (λ j. length cs + j) cs (parts_for book x)) t =
-                  stood alike law book rules goals b.first cells₀ run.ground.low frames n₀ r₀ here.spot.point.steps cs ts
+                  stood alike law book rules goals b.first cells₀ run.basis.low frames n₀ r₀ here.spot.point.steps cs ts
                   here.represents.level goal u₀ lower₀ x may few t stands in
                   let size : length (copied (λ j. length cs + j) cs (parts_for book x)) ≡ length cs + size_at book x =
-                  mid_number alike law book rules goals b.first cells₀ run.ground.low frames n₀ r₀ here.spot.point.steps cs
+                  mid_number alike law book rules goals b.first cells₀ run.basis.low frames n₀ r₀ here.spot.point.steps cs
                   ts here.represents.level goal u₀ lower₀ x may in
                   let now : at'.extent.used ≡ x₀.used + size_at book x =
                   sym (in_use_number at'.extent.used cells' s.tried.fits)
                   ∙ (ap length s.tried.tried.2 ∙ (up.number ∙ (size ∙ ap (λ k. k + size_at book x) number))) in
                   let depth : at'.depth ≡ suc n₀ = s.taken.2 in (
                     record {
-                      ground = ground' s.tried.as_many s.tried.as_long s.as_long;
+                      basis = basis' s.tried.as_many s.tried.as_long s.as_long;
                       filled = record {
                         sound = s.tried.sound;
                         used = let h : x₀.used + size_at book x ≤ b.cells = whole in omega arith;
@@ -449,14 +449,14 @@ module _ {L : Type 0} (alike : L → L → Bool) (law : Decides alike) (book : L
                           moved refl (sym depth) refl refl (sym s.tried.tried.2) (sym s.tried.tried.3)
                           (at_stands alike book goals b.first cells₀ (limits_of b) frames n₀ m.cursor m.count cs ts goal
                           here x some short more below (size_at book x) (copied (λ j. length cs + j) cs (parts_for book x))
-                          (target book frames (length cs) x) on fits t stands rules run.ground.low
+                          (target book frames (length cs) x) on fits t stands rules run.basis.low
                           (let h : length cs + size_at book x ≤ 2048 = few in omega arith) frames' s.taken.0
-                          (let h : n₀ < b.steps = below in let k : b.steps ≤ length frames = run.ground.framed in
+                          (let h : n₀ < b.steps = below in let k : b.steps ≤ length frames = run.basis.framed in
                           let q : length frames' ≡ length frames = s.as_long in omega arith)
                           x₀.used x₀.trail s.taken.1 (sym number) (sym trail_number) size
-                          (mid_front alike law book rules goals b.first cells₀ run.ground.low frames n₀ r₀
+                          (mid_front alike law book rules goals b.first cells₀ run.basis.low frames n₀ r₀
                           here.spot.point.steps cs ts here.represents.level goal u₀ lower₀ x may)
-                          (mid_unjoined alike law book rules goals b.first cells₀ run.ground.low frames n₀ r₀
+                          (mid_unjoined alike law book rules goals b.first cells₀ run.basis.low frames n₀ r₀
                           here.spot.point.steps cs ts here.represents.level goal u₀ lower₀ x may)
                           up at'.goal s.taken.3 c e);
                     },

@@ -59,7 +59,7 @@ module _ {L : Type 0} (alike : L → L → Bool) (law : Decides alike) (book : L
   r₀ = run.replay
 
   used_fits : x₀.used ≤ length cells
-  used_fits = let h : x₀.used ≤ b.cells = run.filled.used in let k : b.cells ≤ length cells = run.ground.fits in omega arith
+  used_fits = let h : x₀.used ≤ b.cells = run.filled.used in let k : b.cells ≤ length cells = run.basis.fits in omega arith
 
   number : length cs ≡ x₀.used
   number = in_use_number x₀.used cells used_fits
@@ -78,7 +78,7 @@ module _ {L : Type 0} (alike : L → L → Bool) (law : Decides alike) (book : L
   ends : (w : Verdict) → checks_from alike book b.first (b.cells - b.first) left cs r₀ i ≡ w →
       Replays alike book goals b cells₀ v cells work frames at (answer_to w)
   ends w e = record {
-    ground = run.ground;
+    basis = run.basis;
     filled = run.filled;
     replay = r₀;
     steps = run.steps;
@@ -146,7 +146,7 @@ module _ {L : Type 0} (alike : L → L → Bool) (law : Decides alike) (book : L
         -- what the step comes to by the definitions
         on : Onto alike book b.first n₀ r₀ cs goal u₀.first u₀.rest x (size_at book x)
             (copied (λ j. length cs + j) cs (parts_for book x)) (target book frames (length cs) x)
-        on = onto alike law book rules goals b.first cells₀ run.ground.low frames n₀ r₀ run.steps cs ts
+        on = onto alike law book rules goals b.first cells₀ run.basis.low frames n₀ r₀ run.steps cs ts
             run.level goal u₀ lower₀ x may
 
         cells_are : x₀.used ≡ b.first + r₀.cells
@@ -169,7 +169,7 @@ module _ {L : Type 0} (alike : L → L → Bool) (law : Decides alike) (book : L
           few : length cs + size_at book x ≤ 2048
           few =
               let h : x₀.used + size_at book x ≤ b.cells = whole in
-              let k : b.cells ≤ 2048 = run.ground.few in
+              let k : b.cells ≤ 2048 = run.basis.few in
               let e : length cs ≡ x₀.used = number in
               omega arith
 
@@ -187,24 +187,24 @@ module _ {L : Type 0} (alike : L → L → Bool) (law : Decides alike) (book : L
               let h : x₀.used + size_at book x ≤ b.cells = whole in
               let e : length cs ≡ x₀.used = number in
               let i : goal.cell < length cs =
-              goal_low alike law book rules goals b.first cells₀ run.ground.low frames n₀ r₀ run.steps cs ts
+              goal_low alike law book rules goals b.first cells₀ run.basis.low frames n₀ r₀ run.steps cs ts
               run.level goal u₀ lower₀ x may in
               let low : x₀.trail ≤ x₀.used = trail_low in
-              let g1 : b.cells ≤ length cells = run.ground.fits in
-              let g2 : b.cells ≤ 2048 = run.ground.few in
-              let g3 : 2 * b.cells ≤ length work = run.ground.long in
-              let g4 : b.steps ≤ length frames = run.ground.framed in
-              let g5 : b.steps ≤ 4096 = run.ground.short in
+              let g1 : b.cells ≤ length cells = run.basis.fits in
+              let g2 : b.cells ≤ 2048 = run.basis.few in
+              let g3 : 2 * b.cells ≤ length work = run.basis.long in
+              let g4 : b.steps ≤ length frames = run.basis.framed in
+              let g5 : b.steps ≤ 4096 = run.basis.short in
               record {
                 pending = r₀.pending;
                 current = u₀;
                 lower = lower₀;
-                few_goals = run.ground.few_goals;
+                few_goals = run.basis.few_goals;
                 room = omega arith;
                 few_steps = omega arith;
                 try = record {
                   formed = subst (λ k. Formed book frames k x) number
-                      (formed alike law book rules goals b.first cells₀ run.ground.low frames n₀ r₀ run.steps
+                      (formed alike law book rules goals b.first cells₀ run.basis.low frames n₀ r₀ run.steps
                       cs ts run.level goal u₀ lower₀ x may);
                   tryable = record {
                     sound = run.filled.sound;
@@ -219,17 +219,17 @@ module _ {L : Type 0} (alike : L → L → Bool) (law : Decides alike) (book : L
 
           module _ (cells' : List (Cell L)) (work' : List ℕ) (frames' : List Frame) (at' : Standing) where
             -- the lists are as long as they were
-            ground' : length cells' ≡ length cells → length work' ≡ length work → length frames' ≡ length frames →
+            basis' : length cells' ≡ length cells → length work' ≡ length work → length frames' ≡ length frames →
                 Ground goals b cells' work' frames'
-            ground' p q w = record {
-              few_goals = run.ground.few_goals;
-              low = run.ground.low;
-              begin = run.ground.begin;
-              fits = let h : b.cells ≤ length cells = run.ground.fits in omega arith;
-              few = run.ground.few;
-              long = let h : 2 * b.cells ≤ length work = run.ground.long in omega arith;
-              framed = let h : b.steps ≤ length frames = run.ground.framed in omega arith;
-              short = run.ground.short;
+            basis' p q w = record {
+              few_goals = run.basis.few_goals;
+              low = run.basis.low;
+              begin = run.basis.begin;
+              fits = let h : b.cells ≤ length cells = run.basis.fits in omega arith;
+              few = run.basis.few;
+              long = let h : 2 * b.cells ≤ length work = run.basis.long in omega arith;
+              framed = let h : b.steps ≤ length frames = run.basis.framed in omega arith;
+              short = run.basis.short;
             }
 
             -- the level, by other names for the same
@@ -257,7 +257,7 @@ module _ {L : Type 0} (alike : L → L → Bool) (law : Decides alike) (book : L
                 ends_at (unlawful i 7) (check_falls alike book b.first (b.cells - b.first) cs r₀ i (step_of x) xs
                 on.next on.on fits u₀.first u₀.rest u₀.list t (on.tried ∙ falls)) in
                 record {
-                  ground = ground' s.tried.as_many s.tried.as_long s.as_long;
+                  basis = basis' s.tried.as_many s.tried.as_long s.as_long;
                   filled = record {
                     sound = s.tried.sound;
                     used = subst (λ (z : Standing). z.extent.used ≤ b.cells) (sym ae) run.filled.used;
@@ -280,10 +280,10 @@ module _ {L : Type 0} (alike : L → L → Bool) (law : Decides alike) (book : L
                 ap (λ k. unify alike (copied (λ j. length cs + j) cs (parts_for book x)) goal.cell (target book frames k x))
                 number ∙ s.tried.tried.1 in
                 let up : WentOn (copied (λ j. length cs + j) cs (parts_for book x)) t =
-                stood alike law book rules goals b.first cells₀ run.ground.low frames n₀ r₀ run.steps cs ts
+                stood alike law book rules goals b.first cells₀ run.basis.low frames n₀ r₀ run.steps cs ts
                 run.level goal u₀ lower₀ x may few t stands in
                 let size : length (copied (λ j. length cs + j) cs (parts_for book x)) ≡ length cs + size_at book x =
-                mid_number alike law book rules goals b.first cells₀ run.ground.low frames n₀ r₀ run.steps cs
+                mid_number alike law book rules goals b.first cells₀ run.basis.low frames n₀ r₀ run.steps cs
                 ts run.level goal u₀ lower₀ x may in
                 let now : at'.extent.used ≡ x₀.used + size_at book x =
                 sym (in_use_number at'.extent.used cells' s.tried.fits)
@@ -292,24 +292,24 @@ module _ {L : Type 0} (alike : L → L → Bool) (law : Decides alike) (book : L
                 let f : Frame = frame_of goal x x₀ in
                 let small : length cs ≤ 2048 = (let h : length cs + size_at book x ≤ 2048 = few in omega arith) in
                 let long : n₀ < length frames' =
-                (let k : b.steps ≤ length frames = run.ground.framed in
+                (let k : b.steps ≤ length frames = run.basis.framed in
                 let q : length frames' ≡ length frames = s.as_long in omega arith) in
                 let above' : Level book goals b.first cells₀ frames' (suc n₀) on.next (run.steps ++ (step_of x ∷ []))
                 t.cells (ts ++ t.trail) =
-                pushed book rules goals b.first cells₀ run.ground.low frames n₀ r₀ run.steps cs ts run.level
+                pushed book rules goals b.first cells₀ run.basis.low frames n₀ r₀ run.steps cs ts run.level
                 goal u₀ lower₀ small frames' s.taken.0 long x f s.taken.1 refl refl (sym number) on.next
                 (size_at book x) on.taken on.offsets on.number (on.end f refl (sym number))
                 (copied (λ j. length cs + j) cs (parts_for book x)) size
-                (mid_front alike law book rules goals b.first cells₀ run.ground.low frames n₀ r₀ run.steps cs ts
+                (mid_front alike law book rules goals b.first cells₀ run.basis.low frames n₀ r₀ run.steps cs ts
                 run.level goal u₀ lower₀ x may)
-                (mid_unjoined alike law book rules goals b.first cells₀ run.ground.low frames n₀ r₀ run.steps cs ts
+                (mid_unjoined alike law book rules goals b.first cells₀ run.basis.low frames n₀ r₀ run.steps cs ts
                 run.level goal u₀ lower₀ x may) t up in
                 let pends : Pends book goals frames' (n₀ ∷ u₀.chain) (Some n₀) 0 on.next.pending =
-                pends_new book rules goals b.first cells₀ run.ground.low frames n₀ r₀ run.steps cs ts run.level
+                pends_new book rules goals b.first cells₀ run.basis.low frames n₀ r₀ run.steps cs ts run.level
                 goal u₀ lower₀ small frames' s.taken.0 long x f s.taken.1 refl refl (sym number) on.next
                 (size_at book x) on.taken on.offsets on.number (on.end f refl (sym number)) (on.pending f refl) in
                 record {
-                  ground = ground' s.tried.as_many s.tried.as_long s.as_long;
+                  basis = basis' s.tried.as_many s.tried.as_long s.as_long;
                   filled = record {
                     sound = s.tried.sound;
                     used = let h : x₀.used + size_at book x ≤ b.cells = whole in omega arith;
@@ -357,8 +357,8 @@ module _ {L : Type 0} (alike : L → L → Bool) (book : List (Entry L)) (goals 
 
   first_fits : b.first ≤ length cells
   first_fits =
-      let h : b.first ≤ b.cells = ready.ground.begin in
-      let k : b.cells ≤ length cells = ready.ground.fits in
+      let h : b.first ≤ b.cells = ready.basis.begin in
+      let k : b.cells ≤ length cells = ready.basis.fits in
       omega arith
 
   pub begins : (at : Standing) → Begun book goals frames b.first at →
@@ -368,8 +368,8 @@ module _ {L : Type 0} (alike : L → L → Bool) (book : List (Entry L)) (goals 
   begins at begun =
       subst (λ z. Replaying alike book goals b cells₀ (checks alike book b.first (b.cells - b.first) cells₀ goals record_steps)
       cells work frames z record_steps) same (record {
-        ground = ready.ground;
-        filled = record { sound = ready.sound; used = ready.ground.begin; room = omega arith };
+        basis = ready.basis;
+        filled = record { sound = ready.sound; used = ready.basis.begin; room = omega arith };
         replay = start goals;
         steps = [];
         level = subst (λ k. Level book goals k cells₀ frames 0 (start goals) [] cells₀ [])

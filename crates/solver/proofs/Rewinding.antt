@@ -30,7 +30,7 @@ module _ {L : Type 0} (alike : L → L → Bool) (book : List (Entry L)) (goals 
   fits : x₀.used ≤ length cells'
   fits =
       let h : x₀.used ≤ b.cells = done.filled.used in
-      let k : b.cells ≤ length cells' = done.ground.fits in
+      let k : b.cells ≤ length cells' = done.basis.fits in
       omega arith
 
   number : length (in_use cells' x₀) ≡ x₀.used

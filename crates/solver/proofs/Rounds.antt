@@ -34,8 +34,8 @@ module _ {L : Type 0} (alike : L → L → Bool) (book : List (Entry L)) (goals 
 
   first_fits : b.first ≤ length cells
   first_fits =
-      let h : b.first ≤ b.cells = ready.ground.begin in
-      let k : b.cells ≤ length cells = ready.ground.fits in
+      let h : b.first ≤ b.cells = ready.basis.begin in
+      let k : b.cells ≤ length cells = ready.basis.fits in
       omega arith
 
   -- the search begins over them
@@ -43,8 +43,8 @@ module _ {L : Type 0} (alike : L → L → Bool) (book : List (Entry L)) (goals 
       Running alike book goals b cells₀ cells work frames (record { at = at; cursor = c; count = 0 })
   begins at begun c first =
       subst (λ z. Running alike book goals b cells₀ cells work frames (record { at = z; cursor = c; count = 0 })) same (record {
-        ground = ready.ground;
-        filled = record { sound = ready.sound; used = ready.ground.begin; room = omega arith };
+        basis = ready.basis;
+        filled = record { sound = ready.sound; used = ready.basis.begin; room = omega arith };
         depth = omega arith;
         count = omega arith;
         searching =
@@ -76,7 +76,7 @@ module _ {L : Type 0} (alike : L → L → Bool) (book : List (Entry L)) (goals 
     fits : x₀.used ≤ length cells'
     fits =
         let h : x₀.used ≤ b.cells = done.filled.used in
-        let k : b.cells ≤ length cells' = done.ground.fits in
+        let k : b.cells ≤ length cells' = done.basis.fits in
         omega arith
 
     number : length (in_use cells' x₀) ≡ x₀.used
@@ -133,7 +133,7 @@ module _ {L : Type 0} (alike : L → L → Bool) (book : List (Entry L)) (goals 
           ends = done.ends;
           left = (r.is ∙ done.level.undone) ∙ kept e g;
           sound = r.sound;
-          used = ready.ground.begin;
+          used = ready.basis.begin;
           depth = done.depth;
           as_many = r.as_many ∙ same;
         })

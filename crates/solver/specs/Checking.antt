@@ -53,7 +53,7 @@ module _ {L : Type 0} (alike : L → L → Bool) (book : List (Entry L)) (goals 
     (at : Standing) where
   -- the lists are those of a replay that began over those cells, and with the steps that are left it comes to the verdict
   pub record Replaying (left : List T.Step) : Type 0 where
-    pub ground : Ground goals b cells work frames
+    pub basis : Ground goals b cells work frames
     pub filled : Filled b cells work at.extent
     pub replay : Replay L
     pub steps : List T.Step
@@ -64,7 +64,7 @@ module _ {L : Type 0} (alike : L → L → Bool) (book : List (Entry L)) (goals 
 
   -- the replay has ended, and this is its answer
   pub record Replays (a : Answer) : Type 0 where
-    pub ground : Ground goals b cells work frames
+    pub basis : Ground goals b cells work frames
     pub filled : Filled b cells work at.extent
     pub replay : Replay L
     pub steps : List T.Step

@@ -23,7 +23,7 @@ pub record Begun {V : Type 0} (book : List (Entry V)) (goals : List ℕ) (frames
 module _ {L : Type 0} where
   -- what is asked of the lists that a search is lent
   pub record Ready (goals : List ℕ) (b : Bounds) (cells : List (Cell L)) (work : List ℕ) (frames : List Frame) : Type 0 where
-    pub ground : Ground goals b cells work frames
+    pub basis : Ground goals b cells work frames
     pub sound : WellFormed (take b.first cells)
 
   -- the search came to its outcome; a grant leaves the cells that it came to, and all else the cells as they were

@@ -86,7 +86,7 @@ module _ {L : Type 0} where
       (cells : List (Cell L)) (work : List ℕ) (frames : List Frame) (m : Moment) where
     -- the lists are those of a point of the search that began over those cells
     pub record Running : Type 0 where
-      pub ground : Ground goals b cells work frames
+      pub basis : Ground goals b cells work frames
       pub filled : Filled b cells work m.at.extent
       pub depth : m.at.depth ≤ b.steps
       pub count : m.count ≤ b.budget
@@ -95,7 +95,7 @@ module _ {L : Type 0} where
 
     -- the search has come to its end
     pub record Finished (e : Ending) : Type 0 where
-      pub ground : Ground goals b cells work frames
+      pub basis : Ground goals b cells work frames
       pub filled : Filled b cells work m.at.extent
       pub depth : m.at.depth ≤ b.steps
       pub ends : EndsAs alike book goals b.first cells₀ (limits_of b)

@@ -67,7 +67,7 @@ run-end-requires g c =
     let v : length c.as_mut_slice.result.now ≡ vec_len s.cells = c.as_mut_slice.ensures.len in
     let w : c.min-served.result ≡ min (length c.args.steps.now) 4096 = c.min-served.ensures in
     record {
-      ground = record {
+      basis = record {
         few_goals = c.if-goals-gt-MOST_GOALS.false;
         low = ok.low;
         begin = omega (arith, s.within, s.few);
