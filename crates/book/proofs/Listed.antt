@@ -1,5 +1,5 @@
 -- Lists of cell numbers: their length is what they say, and within what they hold they are its front.
-use Rattle.std.proofs.Common.{◌≡◌, ℕ, ◌+◌, ◌≤◌, min, List, [], ◌∷◌, ◌++◌, length, take, replicate, sym, ◌∙◌, arith}
+use Rattle.std.proofs.Common.{◌≡◌, ℕ, ◌≤◌, List, ◌++◌, length, take, replicate, arith}
 use Rattle.std.proofs.lemmas.List.{length-take, length-append, length-replicate, take-append-le}
 
 pub length_listed : (n : ℕ) (xs : List ℕ) → length (take n (xs ++ replicate n 0)) ≡ n

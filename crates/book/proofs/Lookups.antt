@@ -2,13 +2,12 @@
 use Rattle.std.proofs.Common.{◌≡◌, ℕ, zero, suc, ◌+◌, ◌-◌, ◌<◌, ◌≤◌, min, List, [], ◌∷◌, ◌++◌, map, length, get_or, take, drop, replicate, Some, None, sym, refl, ap, ◌∙◌, arith}
 use Rattle.std.specs.List.{slice_get}
 use Rattle.std.specs.Option.{option_map}
-use Rattle.std.proofs.lemmas.List.{length-map, length-take, length-drop, length-append, length-replicate, get_or-take, get_or_append_left, get_or-append_right, get_or-replicate}
+use Rattle.std.proofs.lemmas.List.{length-map, length-take, length-drop, length-append, length-replicate, get_or_append_left, get_or-append_right, get_or-replicate}
 use Rattle.std.proofs.lemmas.Option.{slice_get_past, slice_get_read, slice_get-get_or}
 use Rattle.book.specs.declared.entry.EntryCell.{EntryCell}
 use Rattle.book.specs.declared.table.Row.{Row}
 use Rattle.book.specs.declared.entry.EntryKind.{EntryKind}
 use Rattle.book.specs.declared.entry.EntryKind.TheVariants.{Clause, CoFact}
-use Rattle.book.specs.declared.entry.Outline.{Outline}
 use Rattle.book.specs.Answers.{kind_of, listed, of_kind, outline_at, outline_of, part_of}
 use Rattle.book.specs.Tables.{row_entry, row_entries}
 use Rattle.book.proofs.Listed.{length_listed}

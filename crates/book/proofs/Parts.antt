@@ -1,10 +1,10 @@
 -- The rules of an entry's cells: one cell more, one place of many, and what a test of each cell tells.
-use Rattle.std.proofs.Common.{◌≡◌, ℕ, zero, suc, ◌+◌, ◌<◌, ◌≤◌, Bool, true, false, List, [], ◌∷◌, ◌++◌, map, length, get_or, take, Some, None, Decides, sym, refl, ap, ◌∙◌, subst, add-zero, zero-add, arith}
-use Rattle.std.specs.List.{AllByRecursion, slice_get}
+use Rattle.std.proofs.Common.{◌≡◌, ℕ, zero, suc, ◌+◌, ◌<◌, ◌≤◌, Bool, false, List, [], ◌∷◌, ◌++◌, map, length, get_or, take, Some, None, Decides, sym, refl, ap, ◌∙◌, subst, add-zero, zero-add, arith}
+use Rattle.std.specs.List.{slice_get}
 use Rattle.std.specs.Option.{option_map}
-use Rattle.std.proofs.lemmas.List.{get_or-map, length-map, length-take-le, map_more, get_or_read}
+use Rattle.std.proofs.lemmas.List.{get_or-map, length-map, length-take-le, map_more}
 use Rattle.std.proofs.lemmas.Option.{slice_get_past, slice_get_read}
-use Rattle.theory.specs.Entries.{Part, node, PartRules, PartsRules, IsNode}
+use Rattle.theory.specs.Entries.{Part, PartRules, PartsRules, IsNode}
 use Rattle.book.specs.declared.entry.EntryCell.{EntryCell}
 use Rattle.book.specs.Answers.{part_of}
 use Rattle.book.proofs.Deciding.{no_decides}

@@ -1,5 +1,5 @@
 -- Good rows mean entries that keep the rules.
-use Rattle.std.proofs.Common.{◌≡◌, ℕ, ◌≤◌, min, List, length, take, sym, subst, arith}
+use Rattle.std.proofs.Common.{◌≡◌, ℕ, List, take, sym, subst, arith}
 use Rattle.std.proofs.ByRecursion.{All-map, All-weaker}
 use Rattle.std.proofs.lemmas.List.{length-map, length-take}
 use Rattle.theory.specs.Entries.{BookRules, EntryRules}

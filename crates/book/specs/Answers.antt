@@ -1,5 +1,5 @@
 -- What the values of a book's answers mean, and the answer to each question by the book's entries. Assumes nothing.
-use Rattle.std.specs.Prelude.{ℕ, List, [], ◌∷◌, ◌++◌, length, take, replicate, Some, None, Option}
+use Rattle.std.specs.Prelude.{ℕ, List, ◌++◌, length, take, replicate, Some, None, Option}
 use Rattle.std.specs.List.{slice_get}
 use Rattle.std.specs.Option.{option_map}
 use Rattle.theory.specs.Entries.{Entry, Kind, clause, cofact, Part, variable, leaf, node}

@@ -1,9 +1,8 @@
 -- The cut of bytes into fields: one field at a time, and back.
-use Rattle.std.proofs.Common.{◌≡◌, ℕ, zero, suc, ◌+◌, ◌-◌, ◌*◌, ◌/◌, ◌%◌, ◌<◌, ◌≤◌, Bool, true, false, cond, leb, List, [], ◌∷◌, ◌++◌, length, get_or, take, drop, sym, refl, ap, ◌∙◌, subst, arith}
-use Rattle.std.proofs.lemmas.List.{length-append, length-drop, length-take, take_at, drop_at, take-append-drop, drop-drop}
+use Rattle.std.proofs.Common.{◌≡◌, ℕ, zero, suc, ◌+◌, ◌-◌, ◌<◌, ◌≤◌, Bool, true, false, cond, List, [], ◌∷◌, ◌++◌, length, take, drop, sym, refl, ap, ◌∙◌, arith}
+use Rattle.std.proofs.lemmas.List.{length-append, length-drop, take_at, drop_at, drop-drop}
 use Rattle.std.proofs.lemmas.Bool.{le-leb, leb-true}
-use Rattle.leaf.specs.Bytes.{Bytes, two_bytes}
-use Rattle.form.specs.Fields.{Field, Row, field_form, size, whole, first_field, after_field, put, cut_most, cut}
+use Rattle.form.specs.Fields.{Row, field_form, size, whole, first_field, after_field, put, cut_most, cut}
 
 -- the cut does not depend on a bound that is large enough
 more_cut : (n m : ℕ) (bs : List ℕ) → length bs ≤ n → length bs ≤ m → cut_most n bs ≡ cut_most m bs

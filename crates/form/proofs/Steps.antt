@@ -1,10 +1,10 @@
 -- What bytes mean, one field at a time.
-use Rattle.std.proofs.Common.{◌≡◌, ℕ, suc, ◌+◌, ◌<◌, ◌≤◌, Bool, true, false, cond, ltb, ◌≢◌, List, [], ◌∷◌, ◌++◌, length, Some, None, Option, sym, refl, ap, ◌∙◌, subst, arith}
+use Rattle.std.proofs.Common.{◌≡◌, ℕ, suc, ◌<◌, ◌≤◌, Bool, true, false, cond, List, [], ◌∷◌, ◌++◌, length, Some, None, Option, refl, ap, arith}
 use Rattle.std.proofs.lemmas.Bool.{le-ltb, lt-ltb}
 use Rattle.theory.specs.Entries.{Part}
 use Rattle.form.specs.declared.fault.Cause.TheVariants.{PastEnd, WrongGoals, TooMuch}
-use Rattle.form.specs.Fields.{Field, Row, whole, first_field, after_field, put, cut}
-use Rattle.form.specs.Meanings.{Ending, bad, unended, complete, Meaning, goals_end, on_seen, on_found, next_place, row_fault, entry_kind, shape, seen, ending, ending_of, found, row_means, row_of, meaning}
+use Rattle.form.specs.Fields.{whole, first_field, after_field, cut}
+use Rattle.form.specs.Meanings.{bad, unended, complete, goals_end, on_seen, on_found, next_place, row_fault, entry_kind, shape, seen, ending, ending_of, found, row_means, row_of, meaning}
 use Rattle.form.proofs.Cuts.{cut_whole, cut_part}
 
 pub cut_nil : cut [] ≡ record { fields = []; left = [] }

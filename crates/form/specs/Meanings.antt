@@ -1,5 +1,5 @@
 -- What bytes mean as a book: the entries before the first fault, and that fault. Assumes nothing.
-use Rattle.std.specs.Prelude.{ℕ, zero, suc, ◌+◌, ◌*◌, Bool, true, false, cond, not, ◌&&◌, ltb, List, [], ◌∷◌, ◌++◌, length, drop, Some, None, Option, ◌==◌, nat_le, nat_lt, slice_index}
+use Rattle.std.specs.Prelude.{ℕ, suc, ◌+◌, ◌*◌, Bool, true, false, cond, not, ◌&&◌, ltb, List, [], ◌∷◌, ◌++◌, length, drop, Some, None, Option, ◌==◌, nat_le, nat_lt, slice_index}
 use Rattle.std.specs.List.{slice_get}
 use Rattle.theory.specs.Entries.{Entry, Kind, clause, cofact, Part, variable, leaf, node}
 use Rattle.form.specs.declared.fault.Cause.{Cause}
@@ -7,7 +7,7 @@ use Rattle.form.specs.declared.fault.Cause.TheVariants.{PastEnd, WrongTag, Wrong
 use Rattle.form.specs.declared.fault.Fault.{Fault}
 use Rattle.form.specs.declared.fault.Layer.{Layer}
 use Rattle.form.specs.declared.fault.Layer.TheVariants as layers
-use Rattle.form.specs.Fields.{Field, Row, cut}
+use Rattle.form.specs.Fields.{Field, cut}
 
 -- a test of a field: the fault's cause, and whether the field fails it
 pub record Test : Type 0 where

@@ -1,5 +1,5 @@
 -- Frames that agree in the steps that stand tell the same of them.
-use Rattle.std.proofs.Common.{◌≡◌, ℕ, suc, ◌+◌, ◌<◌, ◌≤◌, Bool, true, false, cond, eqb, ◌⊎◌, List, [], ◌∷◌, ◌++◌, map, length, take, drop, Some, None, Option, sym, refl, ap, ◌∙◌, subst, inl, inr, arith}
+use Rattle.std.proofs.Common.{◌≡◌, ℕ, suc, ◌+◌, ◌<◌, ◌≤◌, Bool, true, false, cond, eqb, List, [], ◌∷◌, length, take, Some, None, Option, sym, refl, ap, ◌∙◌, subst, inl, inr, arith}
 use Rattle.std.specs.List.{slice_get}
 use Rattle.std.proofs.lemmas.Bool.{eqb-true}
 use Rattle.theory.specs.Entries.{Entry}
@@ -12,7 +12,7 @@ use Rattle.calls.specs.declared.step.Step.{Step}
 use Rattle.frames.specs.declared.frame.Goal.{Goal}
 use Rattle.frames.specs.declared.frame.Frame.{Frame}
 use Rattle.frames.specs.declared.frame.Cursor.{Cursor}
-use Rattle.frames.specs.Goals.{above, base_of, lies_at, left_by, IsGoal, Link, Pends, Origin, Current}
+use Rattle.frames.specs.Goals.{above, base_of, lies_at, IsGoal, Pends, Origin, Current}
 use Rattle.frames.specs.Tries.{parent_of, cursor_after, Named, Chain, Leftover}
 use Rattle.frames.specs.Levels.{Tells, Level, Under, Stacked}
 use Rattle.frames.proofs.Following.{within_more}

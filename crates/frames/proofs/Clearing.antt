@@ -1,5 +1,5 @@
 -- Taking joins back, over a part of the cells and trail by trail.
-use Rattle.std.proofs.Common.{◌≡◌, ℕ, zero, suc, List, [], ◌∷◌, ◌++◌, length, take, None, Option, sym, refl, ap, ◌∙◌, subst}
+use Rattle.std.proofs.Common.{◌≡◌, ℕ, zero, suc, List, [], ◌∷◌, ◌++◌, length, take, None, Option, refl, ap, ◌∙◌}
 use Rattle.unify.specs.Cells.{Cell, rejoin}
 use Rattle.unify.specs.Unify.{clear}
 use Rattle.unify.proofs.CellLaws.{length_rejoin}

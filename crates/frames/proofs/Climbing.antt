@@ -7,7 +7,7 @@ use Rattle.theory.specs.Records.{member}
 use Rattle.theory.proofs.Elements.{none_some, some_inj}
 use Rattle.frames.specs.declared.frame.Frame.{Frame}
 use Rattle.frames.specs.Goals.{above, Link}
-use Rattle.frames.specs.Tries.{Chain, Chained, OnPath}
+use Rattle.frames.specs.Tries.{Chain}
 use Rattle.frames.proofs.Following.{unset, nth_inside, true_false}
 
 module _ (frames : List Frame) where

@@ -1,5 +1,5 @@
 -- The entries that a goal may still try.
-use Rattle.std.proofs.Common.{◌≡◌, ℕ, zero, suc, ◌+◌, ◌<◌, ◌≤◌, Bool, true, false, cond, List, [], ◌∷◌, ◌++◌, map, length, drop, Some, None, Option, sym, refl, ap, ◌∙◌, subst, add-one, arith}
+use Rattle.std.proofs.Common.{◌≡◌, ℕ, suc, ◌+◌, ◌<◌, ◌≤◌, Bool, true, false, List, [], ◌∷◌, length, Some, None, Option, sym, refl, ap, ◌∙◌, add-one, arith}
 use mathlib.Core.Logic.{∥∥₁_elim}
 use native.Mathlib.Bridge.{le_prop}
 use Rattle.std.specs.List.{slice_get}
@@ -10,7 +10,7 @@ use Rattle.theory.specs.Entries.{Entry, Kind, clause, cofact, BookRules}
 use Rattle.theory.specs.Records.{step_of}
 use Rattle.theory.specs.Records as T
 use Rattle.theory.specs.Search.{clauses_from, entries_from}
-use Rattle.frames.specs.Tries.{mode_of, entries_left, IsClause, Takes, NextEntry}
+use Rattle.frames.specs.Tries.{entries_left, IsClause, NextEntry}
 use Rattle.frames.proofs.Following.{drop_some, nth_inside, true_false}
 
 -- some element of a list that has one

@@ -13,8 +13,8 @@ use Rattle.book.specs.Answers.{goal_in, goal_at}
 use Rattle.searching.proofs.Scopes.{Within}
 use Rattle.frames.specs.declared.frame.Goal.{Goal}
 use Rattle.frames.specs.declared.frame.Frame.{Frame}
-use Rattle.frames.specs.Goals.{above, base_of, lies_at, listed_goal, inner_goal, closing_goal, body_goals, left_by, goal_left}
-use Rattle.frames.specs.Goals.{IsGoal, Link, Pends, Pending, Current, First, NextGoal}
+use Rattle.frames.specs.Goals.{above, base_of, listed_goal, inner_goal, closing_goal, body_goals, left_by, goal_left}
+use Rattle.frames.specs.Goals.{IsGoal, Link, Pends, Pending, First}
 
 -- lists by their n-th element
 module _ {A : Type 0} where

@@ -1,13 +1,13 @@
 -- Which tries are left of a goal, and what each of them comes to by the definitions.
-use Rattle.std.proofs.Common.{◌≡◌, ℕ, zero, suc, ◌+◌, ◌<◌, ◌≤◌, Bool, true, false, cond, eqb, ◌⊎◌, List, [], ◌∷◌, ◌++◌, map, length, get_or, Some, None, Option, sym, refl, ap, ◌∙◌, subst, inl, inr, append_assoc, append-nil, arith}
+use Rattle.std.proofs.Common.{◌≡◌, ℕ, zero, suc, ◌+◌, ◌<◌, ◌≤◌, Bool, true, false, cond, eqb, List, [], ◌∷◌, ◌++◌, map, length, get_or, Some, None, Option, sym, refl, ap, ◌∙◌, subst, inl, inr, append_assoc, append-nil, arith}
 use mathlib.Core.List.{cons≢nil}
 use Rattle.std.specs.List.{slice_get}
 use Rattle.std.proofs.lemmas.Option.{slice_get-get_or}
-use Rattle.std.proofs.lemmas.Bool.{eq-eqb, ne_eqb, cases_eq}
+use Rattle.std.proofs.lemmas.Bool.{eq-eqb, ne_eqb}
 use Rattle.theory.specs.Entries.{Entry, clause}
 use Rattle.theory.specs.Records.{Term, cell, part, Replay, Replayed, member, step, expand, close}
 use Rattle.theory.specs.Records as T
-use Rattle.theory.specs.Search.{tries, tries_of, clauses_from, entries_from}
+use Rattle.theory.specs.Search.{tries, tries_of, clauses_from}
 use Rattle.theory.specs.Known.{placed}
 use Rattle.theory.proofs.Elements.{none_some, some_inj}
 use Rattle.theory.proofs.Steps.{goes, clause_step, loop_step, entry_step}
@@ -20,8 +20,8 @@ use Rattle.calls.specs.Steps.{step_of}
 use Rattle.frames.specs.declared.frame.Goal.{Goal}
 use Rattle.frames.specs.declared.frame.Frame.{Frame}
 use Rattle.frames.specs.declared.frame.Cursor.{Cursor}
-use Rattle.frames.specs.Goals.{above, base_of, lies_at, IsGoal, Link, Pends, Current}
-use Rattle.frames.specs.Tries.{mode_of, parent_of, cursor_after, Named, entries_left, Takes, NextEntry, NextTry}
+use Rattle.frames.specs.Goals.{above, base_of, lies_at, Pends, Current}
+use Rattle.frames.specs.Tries.{mode_of, parent_of, cursor_after, Named, entries_left, NextEntry, NextTry}
 use Rattle.frames.specs.Tries.{Chain, first_cursor, Leftover, Allowed}
 use Rattle.frames.specs.Levels.{Tells, Level}
 use Rattle.frames.proofs.Following.{unset, true_false, within_more}

@@ -1,5 +1,5 @@
 -- One more step stands: what its frame, the cells and the trail then tell.
-use Rattle.std.proofs.Common.{◌≡◌, ℕ, zero, suc, ◌+◌, ◌<◌, ◌≤◌, Bool, true, false, cond, eqb, ◌⊎◌, List, [], ◌∷◌, ◌++◌, map, length, get_or, take, drop, set, Some, None, Option, sym, refl, ap, ◌∙◌, subst, inl, inr, arith, length-append}
+use Rattle.std.proofs.Common.{◌≡◌, ℕ, zero, suc, ◌+◌, ◌<◌, ◌≤◌, Bool, true, false, cond, eqb, ◌⊎◌, List, [], ◌∷◌, ◌++◌, length, get_or, take, drop, set, Some, None, Option, sym, refl, ap, ◌∙◌, subst, inl, inr, arith, length-append}
 use mathlib.Core.Logic.{∥∥₁_elim}
 use native.Mathlib.Bridge.{le_prop}
 use Rattle.std.specs.List.{slice_get, AllByRecursion}
@@ -14,15 +14,13 @@ use Rattle.theory.proofs.Elements.{none_some, some_inj, all_nth}
 use Rattle.unify.specs.Cells.{Cell, unjoined}
 use Rattle.unify.specs.Unify.{State, clear}
 use Rattle.unify.specs.Steady.{WentOn}
-use Rattle.searching.specs.Solving.{Spot, spot}
-use Rattle.searching.proofs.Scopes.{Within}
 use Rattle.book.specs.Answers.{goal_in, goal_at}
 use Rattle.calls.specs.declared.step.Step.{Step}
 use Rattle.calls.specs.Steps.{step_of}
 use Rattle.frames.specs.declared.frame.Goal.{Goal}
 use Rattle.frames.specs.declared.frame.Frame.{Frame}
-use Rattle.frames.specs.Goals.{above, lies_at, closing_goal, left_by, goal_left, IsGoal, Link, Pends, Origin, Current}
-use Rattle.frames.specs.Levels.{size_of, end_of, Tells, Level, Under, Stacked}
+use Rattle.frames.specs.Goals.{above, closing_goal, left_by, goal_left, IsGoal, Link, Pends, Origin, Current}
+use Rattle.frames.specs.Levels.{size_of, end_of, Tells, Level}
 use Rattle.frames.proofs.Following.{nth_inside, within_more}
 use Rattle.frames.proofs.Agreeing.{Agree, below, lies_agree, goal_agree, pends_agree}
 use Rattle.frames.proofs.Clearing.{clear_append, take_clear}

@@ -1,8 +1,7 @@
 -- Where a search or a check begins, and the record of the steps that stand.
-use Rattle.std.proofs.Common.{◌≡◌, ℕ, zero, suc, ◌+◌, ◌<◌, ◌≤◌, Bool, List, [], ◌∷◌, ◌++◌, map, length, take, drop, Some, None, Option, sym, refl, ap, ◌∙◌, subst, le_refl, arith, length-take}
+use Rattle.std.proofs.Common.{◌≡◌, ℕ, zero, suc, ◌+◌, ◌<◌, ◌≤◌, Bool, List, [], ◌∷◌, map, length, take, Some, None, Option, sym, refl, ap, ◌∙◌, subst, le_refl, arith, length-take}
 use lib.ListN.{length-map}
 use Rattle.std.specs.List.{slice_get}
-use Rattle.std.specs.Option.{option_map}
 use Rattle.std.proofs.lemmas.List.{take_all}
 use Rattle.theory.specs.Entries.{Entry, Part}
 use Rattle.theory.specs.Records.{Replay, start}
@@ -15,16 +14,15 @@ use Rattle.unify.specs.Unify.{clear}
 use Rattle.unify.specs.Writing.{write}
 use Rattle.unify.proofs.CellLaws.{unjoined_few}
 use Rattle.searching.specs.Trying.{content_of, copied}
-use Rattle.searching.specs.Solving.{Ended, spot, first_point, searches, solves}
+use Rattle.searching.specs.Solving.{spot, first_point, solves}
 use Rattle.calls.specs.Steps.{step_of}
 use Rattle.frames.specs.declared.frame.Goal.{Goal}
 use Rattle.frames.specs.declared.frame.Frame.{Frame}
 use Rattle.frames.specs.declared.frame.Cursor.{Cursor}
-use Rattle.frames.specs.Goals.{above, Pends, Current, First, NextGoal}
+use Rattle.frames.specs.Goals.{Pends, First, NextGoal}
 use Rattle.frames.specs.Tries.{first_cursor, Leftover}
-use Rattle.frames.specs.Levels.{Tells, Level, Facing}
+use Rattle.frames.specs.Levels.{Level, Facing}
 use Rattle.frames.specs.Points.{Searching}
-use Rattle.frames.proofs.Following.{nth_inside}
 use Rattle.frames.proofs.Leaving.{all_left}
 
 module _ {A : Type 0} where

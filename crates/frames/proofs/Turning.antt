@@ -1,5 +1,5 @@
 -- One turn of a search, over frames, cells and a trail.
-use Rattle.std.proofs.Common.{◌≡◌, ℕ, suc, ◌+◌, ◌<◌, ◌≤◌, Bool, true, false, cond, eqb, ◌⊎◌, List, [], ◌∷◌, ◌++◌, map, length, take, drop, Some, None, Option, sym, refl, ap, ◌∙◌, subst, inl, inr, le_refl, arith, length-append}
+use Rattle.std.proofs.Common.{◌≡◌, ℕ, suc, ◌+◌, ◌<◌, ◌≤◌, Bool, true, false, cond, eqb, List, [], ◌∷◌, ◌++◌, map, length, take, drop, Some, None, Option, sym, refl, ap, ◌∙◌, subst, le_refl, arith, length-append}
 use Rattle.std.specs.List.{slice_get, AllByRecursion}
 use Rattle.std.proofs.lemmas.Bool.{eq-eqb, ne_eqb}
 use Rattle.theory.specs.Entries.{Entry, BookRules}
@@ -11,7 +11,7 @@ use Rattle.unify.specs.Cells.{Cell, unjoined}
 use Rattle.unify.specs.Unify.{State, Move, unify, clear}
 use Rattle.unify.specs.Steady.{WentOn}
 use Rattle.searching.specs.Trying.{copied, attempt}
-use Rattle.searching.specs.Solving.{Spot, Ended, spot, searches, ended}
+use Rattle.searching.specs.Solving.{Spot, spot, searches, ended}
 use Rattle.searching.proofs.Turns.{turn_granted, turn_failed, turn_back, turn_spent, turn_full, turn_short, turn_falls, turn_stands}
 use Rattle.calls.specs.declared.step.Step.{Step}
 use Rattle.calls.specs.Steps.{step_of}
@@ -19,11 +19,11 @@ use Rattle.frames.specs.declared.frame.Goal.{Goal}
 use Rattle.frames.specs.declared.frame.Frame.{Frame}
 use Rattle.frames.specs.declared.frame.Cursor.{Cursor}
 use Rattle.frames.specs.Goals.{above, inner_goal, body_goals, left_by, Pends, Current, First, NextGoal}
-use Rattle.frames.specs.Tries.{cursor_after, Named, Takes, NextTry, first_cursor, Leftover}
-use Rattle.frames.specs.Levels.{size_of, end_of, Tells, Level, Under, Stacked, Facing, Represents}
+use Rattle.frames.specs.Tries.{cursor_after, Takes, NextTry, first_cursor, Leftover}
+use Rattle.frames.specs.Levels.{size_of, end_of, Level, Under, Stacked, Facing, Represents}
 use Rattle.frames.specs.Points.{Searching, EndsAs}
 use Rattle.frames.proofs.Agreeing.{Agree, current_agree, leftover_agree, level_agree, stacked_agree, cursor_agree}
-use Rattle.frames.proofs.Pushing.{goal_inside, pushed, back_again, trail_again, pends_new}
+use Rattle.frames.proofs.Pushing.{pushed, back_again, trail_again, pends_new}
 use Rattle.frames.proofs.Leaving.{NextLeft, no_try, next_left, all_left}
 use Rattle.frames.proofs.Leaving.{entry_on, entry_attempt, loop_on, loop_attempt}
 

@@ -1,7 +1,7 @@
 -- How far a replay has come on the cells, and the points that a search can go back to.
-use Rattle.std.specs.Prelude.{◌≡◌, ℕ, suc, ◌+◌, ◌<◌, ◌≤◌, Bool, cond, List, [], ◌∷◌, length, take, drop, Some, None, Option, ◌==◌, slice_index}
+use Rattle.std.specs.Prelude.{◌≡◌, ℕ, suc, ◌+◌, ◌<◌, ◌≤◌, cond, List, [], ◌∷◌, length, take, drop, Some, None, Option, ◌==◌, slice_index}
 use Rattle.std.specs.List.{slice_get, AllByRecursion}
-use Rattle.theory.specs.Entries.{Entry, Part}
+use Rattle.theory.specs.Entries.{Entry}
 use Rattle.theory.specs.Records.{Term, Replay}
 use Rattle.theory.specs.Records as T
 use Rattle.unify.specs.Cells.{Cell, unjoined}

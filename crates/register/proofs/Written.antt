@@ -1,5 +1,5 @@
 -- The first bytes of an output that a form fills are the form.
-use Rattle.std.proofs.Common.{◌≡◌, ℕ, ◌-◌, List, ◌++◌, length, take, drop, ap, ◌∙◌, arith}
+use Rattle.std.proofs.Common.{◌≡◌, ℕ, ◌-◌, List, length, take, drop, ap, ◌∙◌, arith}
 use lib.Seq.{take-append_seam}
 use Rattle.leaf.specs.Outputs.{Fills}
 

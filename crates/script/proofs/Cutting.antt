@@ -1,5 +1,5 @@
 -- A text that is cut at a byte.
-use Rattle.std.proofs.Common.{◌≡◌, ℕ, suc, ◌+◌, ◌-◌, ◌<◌, List, ◌∷◌, ◌++◌, length, get_or, take, drop, Some, None, Option, sym, ap, ◌∙◌, add-one, arith, length-append, length-take, Bor}
+use Rattle.std.proofs.Common.{◌≡◌, ℕ, ◌+◌, ◌-◌, ◌<◌, List, ◌∷◌, ◌++◌, length, get_or, take, drop, Some, None, Option, sym, ap, ◌∙◌, add-one, arith, length-append, length-take, Bor}
 use native.Mathlib.Nat.{sub-zero}
 use lib.Seq.{split_at}
 use Rattle.std.proofs.lemmas.List.{take_rest, get_or-take}

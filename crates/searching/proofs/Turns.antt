@@ -1,12 +1,12 @@
 -- One turn of the executable search, by what is pending and which tries are left.
-use Rattle.std.proofs.Common.{◌≡◌, ℕ, suc, ◌<◌, ◌≤◌, Bool, true, false, eqb, ltb, List, [], ◌∷◌, length, Option, ap, ◌∙◌}
+use Rattle.std.proofs.Common.{◌≡◌, ℕ, suc, ◌<◌, ◌≤◌, Bool, true, false, eqb, ltb, List, [], ◌∷◌, length, ap, ◌∙◌}
 use Rattle.std.proofs.lemmas.Bool.{lt-ltb, le-ltb, eq-eqb, ne_eqb}
 use Rattle.theory.specs.Entries.{Entry}
 use Rattle.theory.specs.Records.{Step, Goal, Replay, Replayed, step}
-use Rattle.theory.specs.Search.{Point, Limits, granted, failed, spent, full, short, without, onward}
+use Rattle.theory.specs.Search.{Limits, granted, failed, spent, full, short, without, onward}
 use Rattle.unify.specs.Unify.{State, Move}
 use Rattle.searching.specs.Trying.{attempt}
-use Rattle.searching.specs.Solving.{Spot, Ended, Goes, ended, spot, by_move, by_cells, by_step, by_room, by_budget}
+use Rattle.searching.specs.Solving.{Spot, Goes, ended, spot, by_move, by_cells, by_step, by_room, by_budget}
 use Rattle.searching.specs.Solving.{by_below, by_left, by_pending, searches}
 
 module _ {V : Type 0} (same : V → V → Bool) (book : List (Entry V)) (used : ℕ) (lim : Limits)

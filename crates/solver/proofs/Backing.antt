@@ -1,5 +1,5 @@
 -- The latest step taken back, on the lists that a search was lent.
-use Rattle.std.proofs.Common.{◌≡◌, ℕ, suc, ◌+◌, ◌-◌, ◌*◌, ◌<◌, ◌≤◌, Bool, List, [], ◌∷◌, length, get_or, take, drop, Some, None, Option, sym, refl, ap, ◌∙◌, subst, arith}
+use Rattle.std.proofs.Common.{◌≡◌, ℕ, suc, ◌-◌, ◌<◌, ◌≤◌, Bool, List, length, get_or, take, drop, Some, None, sym, subst, arith}
 use Rattle.std.specs.List.{slice_get, AllByRecursion}
 use Rattle.std.proofs.lemmas.Option.{slice_get-get_or}
 use Rattle.std.proofs.lemmas.List.{take-take}
@@ -17,17 +17,16 @@ use Rattle.frames.specs.declared.frame.Goal.{Goal}
 use Rattle.frames.specs.declared.frame.Frame.{Frame}
 use Rattle.frames.specs.declared.frame.Cursor.{Cursor}
 use Rattle.frames.specs.Tries.{cursor_after, Named, NextTry}
-use Rattle.frames.specs.Levels.{end_of, Level, Under}
+use Rattle.frames.specs.Levels.{end_of, Under}
 use Rattle.frames.specs.Points.{Searching, EndsAs}
 use Rattle.frames.proofs.Following.{unset}
 use Rattle.frames.proofs.Pushing.{end_after}
 use Rattle.frames.proofs.Starting.{steps_are}
 use Rattle.frames.proofs.Turning.{top_under, at_back, at_failed, at_granted}
-use Rattle.solver.specs.declared.standing.Standing.{Standing}
 use Rattle.solver.specs.declared.standing.Moment.{Moment}
 use Rattle.solver.specs.declared.standing.Bounds.{Bounds}
 use Rattle.solver.specs.declared.standing.Ending.TheVariants.{Granted, Failed}
-use Rattle.solver.specs.Searching.{turns_left, limits_of, frame_steps, outcome_of, in_use, origin, Ground, Filled, Running, Finished}
+use Rattle.solver.specs.Searching.{turns_left, limits_of, in_use, origin, Running, Finished}
 use Rattle.solver.proofs.Moments.{used_fits, number, trail_number, short, finished, here}
 
 module _ {L : Type 0} (alike : L → L → Bool) (law : Decides alike) (book : List (Entry L)) (rules : ∥ BookRules book ∥₁)

@@ -1,5 +1,5 @@
 -- One turn of a search on the lists that it was lent.
-use Rattle.std.proofs.Common.{◌≡◌, ℕ, suc, ◌+◌, ◌-◌, ◌*◌, ◌<◌, ◌≤◌, Bool, true, false, cond, eqb, ◌⊎◌, List, [], ◌∷◌, ◌++◌, length, get_or, take, drop, Some, None, Option, sym, refl, ap, ◌∙◌, subst, inl, inr, add-one, arith, length-take}
+use Rattle.std.proofs.Common.{◌≡◌, ℕ, suc, ◌+◌, ◌-◌, ◌*◌, ◌<◌, ◌≤◌, Bool, true, false, cond, eqb, List, [], length, get_or, take, Some, None, Option, sym, refl, ap, ◌∙◌, subst, inl, inr, add-one, arith, length-take}
 use mathlib.Core.Logic.{∥∥₁_elim}
 use native.Mathlib.Bridge.{le_prop}
 use Rattle.std.specs.List.{slice_get, AllByRecursion}
@@ -7,40 +7,37 @@ use Rattle.std.proofs.lemmas.Option.{slice_get-get_or}
 use Rattle.std.proofs.lemmas.Bool.{eq-eqb, ne_eqb}
 use Rattle.theory.specs.Entries.{Entry, EntryRules, BookRules, PartsRules}
 use Rattle.theory.specs.Records.{Replay}
-use Rattle.theory.proofs.Elements.{some_inj, all_nth}
+use Rattle.theory.proofs.Elements.{all_nth}
 use Rattle.unify.specs.Cells as C
 use Rattle.unify.specs.Cells.{unjoined}
 use Rattle.unify.specs.Solved.{Solved}
-use Rattle.unify.specs.Unify.{State, Move, unify, clear}
+use Rattle.unify.specs.Unify.{State, Move, unify}
 use Rattle.unify.specs.Theorems.{Decides}
 use Rattle.unify.specs.Steady.{WentOn}
 use Rattle.unify.proofs.Running.{went_on}
 use Rattle.searching.specs.Trying.{copied}
 use Rattle.cells.specs.declared.cell.Cell.{Cell}
-use Rattle.cells.specs.Cells.{cells_of, WellFormed}
 use Rattle.calls.specs.declared.step.Step.{Step}
 use Rattle.attempts.specs.declared.extent.Extent.{Extent}
-use Rattle.attempts.specs.Attempts.{parts_in, parts_at, Tryable, Attempted, Retractable}
+use Rattle.attempts.specs.Attempts.{parts_in, parts_at}
 use Rattle.attempts.proofs.Rules.{entry_parts, is_there}
 use Rattle.attempts.proofs.Copying.{length_copied, copied_front, copied_solved}
 use Rattle.frames.specs.declared.frame.Goal.{Goal}
 use Rattle.frames.specs.declared.frame.Frame.{Frame}
 use Rattle.frames.specs.declared.frame.Cursor.{Cursor}
-use Rattle.frames.specs.Goals.{above, Current, NextGoal}
-use Rattle.frames.specs.Tries.{mode_of, cursor_after, Named, Takes, NextTry, first_cursor, Allowed}
-use Rattle.frames.specs.Levels.{size_of, end_of, Level, Under, Represents}
+use Rattle.frames.specs.Goals.{above, Current}
+use Rattle.frames.specs.Tries.{mode_of, cursor_after, NextTry, first_cursor, Allowed}
+use Rattle.frames.specs.Levels.{size_of, end_of, Level}
 use Rattle.frames.specs.Points.{Searching, EndsAs}
 use Rattle.frames.proofs.Following.{unset, nth_inside}
-use Rattle.frames.proofs.Agreeing.{Agree}
 use Rattle.frames.proofs.Pushing.{goal_inside, end_after}
 use Rattle.frames.proofs.Starting.{unjoined_copied}
-use Rattle.frames.proofs.Leaving.{NextLeft}
 use Rattle.frames.proofs.Turning.{Onto, entry_onto, loop_onto, next, at_spent, at_full, at_short, at_falls, at_stands}
 use Rattle.solver.specs.declared.standing.Standing.{Standing}
 use Rattle.solver.specs.declared.standing.Moment.{Moment}
 use Rattle.solver.specs.declared.standing.Bounds.{Bounds}
 use Rattle.solver.specs.declared.standing.Ending.TheVariants.{Spent, Full, Short}
-use Rattle.solver.specs.Steps.{head_in, goal_cell, size_at, parts_for, target, Formed, TryableStep, Takeable, Stepped}
+use Rattle.solver.specs.Steps.{head_in, goal_cell, size_at, parts_for, target, Formed, Takeable, Stepped}
 use Rattle.solver.specs.Searching.{turns_left, limits_of, in_use, Ground, Filled, Running, Finished, Facing}
 use Rattle.solver.proofs.Stepping.{in_use_number}
 

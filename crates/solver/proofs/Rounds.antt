@@ -1,28 +1,24 @@
 -- A whole search: how it begins, and what it leaves.
-use Rattle.std.proofs.Common.{◌≡◌, ℕ, suc, ◌+◌, ◌-◌, ◌*◌, ◌<◌, ◌≤◌, Bool, true, false, List, [], ◌∷◌, length, take, drop, Some, None, sym, refl, ap, ◌∙◌, subst, arith, length-take}
+use Rattle.std.proofs.Common.{◌≡◌, ℕ, ◌+◌, ◌<◌, ◌≤◌, Bool, true, false, List, [], length, take, sym, refl, ◌∙◌, subst, arith}
 use Rattle.std.specs.List.{AllByRecursion}
 use Rattle.theory.specs.Entries.{Entry}
-use Rattle.theory.specs.Search.{Outcome}
 use Rattle.unify.specs.Cells as C
 use Rattle.unify.specs.Solved.{Solved}
-use Rattle.unify.specs.Unify.{clear}
 use Rattle.searching.specs.Answering.{left_by}
 use Rattle.cells.specs.declared.cell.Cell.{Cell}
-use Rattle.cells.specs.Cells.{cells_of, WellFormed}
+use Rattle.cells.specs.Cells.{cells_of}
 use Rattle.attempts.specs.declared.extent.Extent.{Extent}
 use Rattle.attempts.specs.Attempts.{Retractable, Retracted}
 use Rattle.frames.specs.declared.frame.Frame.{Frame}
 use Rattle.frames.specs.declared.frame.Cursor.{Cursor}
-use Rattle.frames.specs.Levels.{Level}
-use Rattle.frames.specs.Points.{Searching, EndsAs}
+use Rattle.frames.specs.Points.{Searching}
 use Rattle.frames.proofs.Starting.{start_searching}
 use Rattle.solver.specs.declared.standing.Standing.{Standing}
 use Rattle.solver.specs.declared.standing.Moment.{Moment}
 use Rattle.solver.specs.declared.standing.Bounds.{Bounds}
-use Rattle.solver.specs.declared.standing.Finish.{Finish}
 use Rattle.solver.specs.declared.standing.Ending.{Ending}
 use Rattle.solver.specs.declared.standing.Ending.TheVariants.{Granted, Failed, Spent, Full, Short}
-use Rattle.solver.specs.Searching.{limits_of, frame_steps, outcome_of, ends_granted, in_use, origin, FirstTries, Ground, Filled, Running, Finished}
+use Rattle.solver.specs.Searching.{limits_of, frame_steps, outcome_of, ends_granted, in_use, origin, FirstTries, Running, Finished}
 use Rattle.solver.specs.Runs.{Begun, Ready, Ran}
 use Rattle.solver.proofs.Stepping.{in_use_number}
 

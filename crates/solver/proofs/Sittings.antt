@@ -1,13 +1,12 @@
 -- One call of a sitting, and one after another.
-use Rattle.std.proofs.Common.{◌≡◌, ℕ, ◌+◌, ◌-◌, ◌<◌, ◌≤◌, min, List, [], ◌∷◌, ◌++◌, map, length, get_or, take, drop, IfOk, Ok, Err, Result, sym, refl, ap, ◌∙◌, subst, arith, length-take}
+use Rattle.std.proofs.Common.{◌≡◌, ℕ, ◌+◌, ◌-◌, ◌<◌, min, List, [], ◌∷◌, ◌++◌, map, length, get_or, take, drop, IfOk, Ok, Err, Result, sym, refl, ap, ◌∙◌, subst, arith, length-take}
 use mathlib.Core.List.{map-append}
 use lib.ListN.{length-map}
 use Rattle.std.proofs.lemmas.List.{take_more, take-append-drop}
 use Rattle.theory.specs.Entries.{Entry, BookRules}
 use Rattle.theory.specs.Calls.{Event}
 use Rattle.theory.specs.Calls as T
-use Rattle.theory.specs.Known.{nothing, known}
-use Rattle.theory.specs.Sittings.{Right, Law}
+use Rattle.theory.specs.Known.{nothing}
 use Rattle.theory.specs.Carried.{Cell, StandsFor, Carries, and_then}
 use Rattle.theory.proofs.LawOfSittings.{law}
 use Rattle.theory.proofs.OneBookProof.{rules_out}

@@ -1,10 +1,10 @@
 -- The answers of solve are the executed ones.
-use Rattle.std.proofs.Common.{◌≡◌, ℕ, ◌-◌, ◌*◌, ◌<◌, ◌≤◌, Bool, true, false, ◌||◌, ltb, List, length, take, Some, vec_items, Option, sym, refl, ap, ◌∙◌, subst}
+use Rattle.std.proofs.Common.{◌≡◌, ℕ, ◌-◌, ◌<◌, ◌≤◌, Bool, List, length, take, Some, vec_items, Option, sym, refl, ap, ◌∙◌, subst}
 use Rattle.std.proofs.lemmas.Bool.{lt-ltb, le-ltb}
 use Rattle.theory.specs.Entries.{Entry, BookRules}
-use Rattle.theory.specs.Search.{Limits, Outcome}
-use Rattle.theory.specs.Calls.{Call, solve, refused, too_long, too_short}
-use Rattle.theory.specs.Answers.{capacity, served, first_unused, answer_of}
+use Rattle.theory.specs.Search.{Outcome}
+use Rattle.theory.specs.Calls.{Call, solve, refused, too_long}
+use Rattle.theory.specs.Answers.{capacity, served, answer_of}
 use Rattle.unify.specs.Cells as C
 use Rattle.unify.specs.Theorems.{Decides}
 use Rattle.searching.specs.Solving.{solves}

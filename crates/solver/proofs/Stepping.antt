@@ -1,16 +1,16 @@
 -- A step of any mode, by the try that it makes.
-use Rattle.std.proofs.Common.{◌≡◌, ℕ, suc, ◌+◌, ◌<◌, ◌≤◌, Bool, true, false, cond, eqb, ◌⊎◌, List, [], ◌∷◌, ◌++◌, length, get_or, take, set, Some, None, Option, sym, refl, ap, ◌∙◌, subst, inl, inr, arith, length-take}
+use Rattle.std.proofs.Common.{◌≡◌, ℕ, ◌+◌, ◌<◌, ◌≤◌, Bool, false, cond, List, [], length, get_or, take, sym, ap, ◌∙◌, subst, inl, inr, arith, length-take}
 use lib.ListN.{length-map}
 use Rattle.std.specs.List.{slice_get}
 use Rattle.std.proofs.lemmas.Option.{slice_get-get_or}
-use Rattle.std.proofs.lemmas.Bool.{eq-eqb, ne_eqb}
+use Rattle.std.proofs.lemmas.Bool.{eq-eqb}
 use Rattle.theory.specs.Entries.{Entry}
 use Rattle.theory.proofs.Elements.{some_inj}
 use Rattle.cells.specs.declared.cell.Cell.{Cell}
 use Rattle.cells.specs.Cells.{cell_of, cells_of}
 use Rattle.calls.specs.declared.step.Step.{Step}
 use Rattle.attempts.specs.declared.extent.Extent.{Extent}
-use Rattle.attempts.specs.Attempts.{parts_at, Tryable, Attempted}
+use Rattle.attempts.specs.Attempts.{parts_at, Attempted}
 use Rattle.frames.specs.declared.frame.Frame.{Frame}
 use Rattle.frames.specs.Levels.{size_of}
 use Rattle.frames.proofs.Following.{unset, nth_inside}

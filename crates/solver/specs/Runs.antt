@@ -1,5 +1,5 @@
 -- A whole search, from its beginning to its end.
-use Rattle.std.specs.Prelude.{◌≡◌, ℕ, ◌≤◌, Bool, List, [], length, take, None}
+use Rattle.std.specs.Prelude.{◌≡◌, ℕ, ◌≤◌, Bool, List, length, take, None}
 use Rattle.theory.specs.Entries.{Entry}
 use Rattle.unify.specs.Cells as C
 use Rattle.searching.specs.Answering.{left_by}

@@ -1,6 +1,6 @@
 -- The state of a search on the lists that it was lent, and what comes of it.
-use Rattle.std.specs.Prelude.{◌≡◌, ℕ, ◌+◌, ◌-◌, ◌*◌, ◌<◌, ◌≤◌, Bool, true, false, List, [], ◌∷◌, map, length, take, Some, None, Option}
-use Rattle.std.specs.List.{slice_get, AllByRecursion}
+use Rattle.std.specs.Prelude.{◌≡◌, ℕ, ◌+◌, ◌-◌, ◌*◌, ◌<◌, ◌≤◌, Bool, true, false, List, map, length, take, Some, None, Option}
+use Rattle.std.specs.List.{AllByRecursion}
 use Rattle.theory.specs.Entries.{Entry}
 use Rattle.theory.specs.Records.{Replay}
 use Rattle.theory.specs.Records as T
@@ -18,7 +18,6 @@ use Rattle.frames.specs.declared.frame.Cursor.{Cursor}
 use Rattle.frames.specs.Tries.{first_cursor, NextTry}
 use Rattle.frames.specs.Levels.{Level}
 use Rattle.frames.specs.Points.{Searching, EndsAs}
-use Rattle.solver.specs.declared.standing.Standing.{Standing}
 use Rattle.solver.specs.declared.standing.Moment.{Moment}
 use Rattle.solver.specs.declared.standing.Bounds.{Bounds}
 use Rattle.solver.specs.declared.standing.Ending.{Ending}

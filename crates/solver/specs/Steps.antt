@@ -1,5 +1,5 @@
 -- What a step of any mode does to cells, trail and frames.
-use Rattle.std.specs.Prelude.{◌≡◌, ℕ, suc, ◌+◌, ◌<◌, ◌≤◌, Bool, true, false, cond, ◌⊎◌, List, [], ◌∷◌, ◌++◌, length, Some, None, Option, ◌==◌, ◌≢◌}
+use Rattle.std.specs.Prelude.{◌≡◌, ℕ, suc, ◌+◌, ◌<◌, ◌≤◌, Bool, true, false, cond, ◌⊎◌, List, [], length, Some, None, Option, ◌==◌, ◌≢◌}
 use Rattle.std.specs.List.{slice_get}
 use Rattle.theory.specs.Entries.{Entry, Part}
 use Rattle.theory.specs.Records as T
@@ -9,7 +9,7 @@ use Rattle.attempts.specs.declared.extent.Extent.{Extent}
 use Rattle.attempts.specs.Attempts.{parts_at, Tryable, Attempted}
 use Rattle.frames.specs.declared.frame.Goal.{Goal}
 use Rattle.frames.specs.declared.frame.Frame.{Frame}
-use Rattle.frames.specs.Goals.{above, left_by, Current, NextGoal}
+use Rattle.frames.specs.Goals.{above, Current, NextGoal}
 use Rattle.frames.specs.Levels.{size_of}
 use Rattle.solver.specs.declared.standing.Standing.{Standing}
 

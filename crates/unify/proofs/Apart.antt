@@ -1,11 +1,11 @@
 -- Readings that tell an open root apart from another root.
-use Rattle.std.proofs.Common.{◌≡◌, ℕ, zero, suc, ◌+◌, ◌<◌, ◌≤◌, Bool, true, false, cond, eqb, List, [], ◌∷◌, length, Some, None, Option, sym, refl, ap, ◌∙◌, subst, arith}
+use Rattle.std.proofs.Common.{◌≡◌, ℕ, ◌<◌, Bool, true, false, cond, eqb, List, [], length, Some, None, sym, refl, ap, ◌∙◌, subst, arith}
 use Rattle.std.proofs.lemmas.Bool.{eq-eqb, ne_eqb}
 use Rattle.theory.specs.Trees.{Tree, Label, Same, IsTree}
-use Rattle.unify.specs.Cells.{Content, variable, leaf, node, Cell, content_at, joined_at, root}
-use Rattle.unify.specs.Solved.{Solved, stated}
+use Rattle.unify.specs.Cells.{Content, variable, leaf, node, Cell, content_at, joined_at}
+use Rattle.unify.specs.Solved.{Solved}
 use Rattle.unify.specs.Readings.{reading, OpenRoot}
-use Rattle.unify.proofs.CellReads.{MeetsContent, Reads}
+use Rattle.unify.proofs.CellReads.{MeetsContent}
 use Rattle.unify.proofs.Fitting.{same_node, leaf_node}
 use Rattle.unify.proofs.ReadingMeets.{reading_reads, at_open}
 use Rattle.unify.proofs.Constants.{other, other_apart, other_small, constant, constant_is_tree}

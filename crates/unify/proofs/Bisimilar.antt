@@ -1,12 +1,12 @@
 -- Where only leaves and nodes were joined, cells with one root have one tree in every reading of the cells before.
-use Rattle.std.proofs.Common.{◌≡◌, ℕ, zero, suc, ◌+◌, ◌<◌, ◌≤◌, ◌⊎◌, List, [], ◌∷◌, length, Some, None, Option, sym, refl, ap, ◌∙◌, subst, subst₂, inl, inr, zero-add, arith}
+use Rattle.std.proofs.Common.{◌≡◌, ℕ, zero, suc, ◌<◌, ◌≤◌, ◌⊎◌, List, [], ◌∷◌, length, Some, None, Option, sym, refl, ap, ◌∙◌, subst, subst₂, inl, inr, zero-add, arith}
 use Rattle.std.specs.List.{slice_get}
 use Rattle.theory.specs.Trees.{Tree, Label, Same, IsTree, Branches, Place}
 use Rattle.unify.specs.Cells.{Content, variable, leaf, node, Cell, content_at, joined_at, root}
 use Rattle.unify.specs.Solved.{Matches, SameRoots, Solved}
 use Rattle.unify.specs.Readings.{label_here, label_below, label_of_argument}
 use Rattle.unify.proofs.Places.{none_some, child_at}
-use Rattle.unify.proofs.Roots.{IsVariable, root_none, root_ends, root_root}
+use Rattle.unify.proofs.Roots.{IsVariable, root_none, root_ends}
 use Rattle.unify.proofs.Matching.{root_matches, roots_at, roots_length}
 use Rattle.unify.proofs.CellReads.{Reads, MeetsContent, reads_root}
 use Rattle.unify.proofs.Growth.{More, root_on, nth_none}

@@ -1,6 +1,6 @@
 -- What a change of one join alters, and what it leaves.
-use Rattle.std.proofs.Common.{◌≡◌, ℕ, zero, suc, ◌+◌, ◌<◌, ◌≤◌, List, [], ◌∷◌, length, Some, None, Option, sym, refl, ap, ◌∙◌, subst, le_of_suc-le-suc, not-suc-le-zero, arith}
-use Rattle.unify.specs.Cells.{Content, variable, leaf, node, Cell, content_at, joined_at, rejoin, rank, rank_of, one_if_none, unjoined}
+use Rattle.std.proofs.Common.{◌≡◌, ℕ, zero, suc, ◌<◌, ◌≤◌, List, [], ◌∷◌, length, Some, None, Option, sym, refl, ap, le_of_suc-le-suc, not-suc-le-zero, arith}
+use Rattle.unify.specs.Cells.{Content, variable, Cell, content_at, joined_at, rejoin, rank, rank_of, one_if_none, unjoined}
 
 one_at_most : (o : Option ℕ) → one_if_none o ≤ 1
 one_at_most None = omega arith

@@ -1,7 +1,7 @@
 -- What it is, cell by cell, that a reading meets what cells state.
 use Rattle.std.proofs.Common.{◌≡◌, ℕ, zero, suc, ◌+◌, List, [], ◌∷◌, length, Some, None, Option, sym, refl, ap, ◌∙◌, subst, add-zero, add-suc, suc-add, zero-add}
 use Rattle.theory.specs.Trees.{Tree, Label, Same}
-use Rattle.theory.specs.Equations.{Equation, is_leaf, is_node, equal, Children, MeetsAll}
+use Rattle.theory.specs.Equations.{Equation, Children, MeetsAll}
 use Rattle.unify.specs.Cells.{Content, variable, leaf, node, Cell, content_at, joined_at, root}
 use Rattle.unify.specs.Solved.{stated, stated_from, and_content, and_join, Descends}
 use Rattle.unify.proofs.Places.{none_some, some_same}

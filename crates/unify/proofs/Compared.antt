@@ -1,11 +1,11 @@
 -- The comparison is right: what it calls equal, and what it tells apart.
-use Rattle.std.proofs.Common.{◌≡◌, ℕ, zero, suc, ◌+◌, ◌<◌, ◌≤◌, Bool, true, false, List, [], ◌∷◌, length, Some, None, Option, sym, refl, ap, ◌∙◌, subst, subst₂}
+use Rattle.std.proofs.Common.{◌≡◌, ℕ, ◌<◌, Bool, false, List, length, None, sym, refl, ◌∙◌, subst}
 use Rattle.theory.specs.Trees.{Tree, Same, IsTree}
-use Rattle.theory.specs.Equations.{Solves, Entails}
-use Rattle.unify.specs.Cells.{Content, variable, leaf, node, Cell, content_at, joined_at, root}
+use Rattle.theory.specs.Equations.{Solves}
+use Rattle.unify.specs.Cells.{Content, variable, leaf, node, Cell, content_at, joined_at}
 use Rattle.unify.specs.Solved.{Solved, stated}
-use Rattle.unify.specs.Readings.{reading, OpenRoot}
-use Rattle.unify.specs.Unify.{State, Move, went, clash, clear, fits, join, compare}
+use Rattle.unify.specs.Readings.{reading}
+use Rattle.unify.specs.Unify.{State, Move, went, clash, fits, join, compare}
 use Rattle.unify.specs.Theorems.{Decides, Compared}
 use Rattle.unify.proofs.Places.{none_some}
 use Rattle.unify.proofs.Roots.{IsVariable}

@@ -1,5 +1,5 @@
 -- Trees with a root alone, and what a tree lacks below its labels.
-use Rattle.std.proofs.Common.{◌≡◌, ℕ, zero, suc, ◌+◌, ◌<◌, ◌≤◌, List, [], ◌∷◌, ◌++◌, Some, None, Option, sym, refl, ap, ◌∙◌, subst, append_assoc, append-nil, not-suc-le-zero, arith}
+use Rattle.std.proofs.Common.{◌≡◌, ℕ, zero, suc, ◌<◌, [], ◌∷◌, ◌++◌, Some, None, Option, sym, refl, subst, append_assoc, append-nil, not-suc-le-zero, arith}
 use Rattle.theory.specs.Trees.{Tree, Label, IsTree, Present, Branches, InRange, Place}
 
 -- a symbol other than the given one

@@ -1,10 +1,10 @@
 -- More joins keep equal roots equal.
-use Rattle.std.proofs.Common.{◌≡◌, ℕ, zero, suc, ◌+◌, ◌<◌, ◌≤◌, List, [], ◌∷◌, ◌++◌, length, Some, None, Option, sym, refl, ap, ◌∙◌, subst, arith}
+use Rattle.std.proofs.Common.{◌≡◌, ℕ, zero, suc, ◌≤◌, List, [], ◌∷◌, ◌++◌, length, Some, None, sym, refl, ap, ◌∙◌, arith}
 use Rattle.std.specs.List.{slice_get}
 use Rattle.unify.specs.Cells.{Content, variable, leaf, node, Cell, joined_at, rejoin, root}
 use Rattle.unify.specs.Solved.{Matches, SameRoots, Descends}
 use Rattle.unify.specs.Unify.{clear}
-use Rattle.unify.proofs.Places.{none_some, nth_inside}
+use Rattle.unify.proofs.Places.{none_some}
 use Rattle.unify.proofs.Roots.{along, root_none, root_some}
 
 pub nth_front : (xs ys : List ℕ) (k x : ℕ) → slice_get xs k ≡ Some x → slice_get (xs ++ ys) k ≡ Some x

@@ -1,9 +1,9 @@
 -- What holds of the unifier's state from turn to turn.
-use Rattle.std.proofs.Common.{◌≡◌, ℕ, zero, suc, ◌+◌, ◌<◌, ◌≤◌, Bool, true, false, ◌⊎◌, List, [], ◌∷◌, ◌++◌, length, Some, None, Option, sym, refl, ap, ◌∙◌, subst, subst₂, inl, inr, add-zero, arith, length-append}
+use Rattle.std.proofs.Common.{◌≡◌, ℕ, suc, ◌+◌, ◌<◌, ◌≤◌, Bool, false, ◌⊎◌, List, [], ◌∷◌, ◌++◌, length, Some, None, sym, refl, ap, ◌∙◌, subst, subst₂, inl, inr, add-zero, arith, length-append}
 use Rattle.std.proofs.lemmas.Bool.{cases_eq, cases_order}
 use Rattle.std.specs.List.{slice_get}
 use Rattle.theory.specs.Trees.{Tree, Same}
-use Rattle.unify.specs.Cells.{Content, variable, leaf, node, Cell, content_at, joined_at, rejoin, rank, rank_of, root, unjoined}
+use Rattle.unify.specs.Cells.{Content, variable, leaf, node, Cell, content_at, joined_at, rejoin, rank, rank_of, unjoined}
 use Rattle.unify.specs.Solved.{Matches, SameRoots, Descends, Solved}
 use Rattle.unify.specs.Unify.{State, start, link, next, clear}
 use Rattle.unify.proofs.Places.{none_some, some_same, nth_inside}

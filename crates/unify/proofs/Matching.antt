@@ -1,7 +1,7 @@
 -- Contents that match, and lists of arguments with the same roots.
-use Rattle.std.proofs.Common.{◌≡◌, ℕ, zero, suc, List, [], ◌∷◌, length, Some, None, Option, sym, refl, ap, ◌∙◌, subst}
+use Rattle.std.proofs.Common.{◌≡◌, ℕ, zero, suc, List, [], ◌∷◌, length, Some, sym, refl, ap, ◌∙◌, subst}
 use Rattle.std.specs.List.{slice_get}
-use Rattle.unify.specs.Cells.{Content, variable, leaf, node, Cell, content_at, joined_at, root}
+use Rattle.unify.specs.Cells.{Content, variable, leaf, node, Cell, content_at, root}
 use Rattle.unify.specs.Solved.{Matches, SameRoots, Solved}
 use Rattle.unify.proofs.Places.{none_some, some_same}
 use Rattle.unify.proofs.Roots.{along, root_none, root_some}

@@ -1,15 +1,15 @@
 -- Cells keep their meaning through writing, unifying and comparing.
-use Rattle.std.proofs.Common.{◌≡◌, ℕ, zero, suc, ◌+◌, ◌<◌, ◌≤◌, Bool, ◌⊎◌, ◌↔◌, List, [], ◌∷◌, ◌++◌, length, Some, None, Option, sym, refl, ap, ◌∙◌, subst, inl, inr, arith}
+use Rattle.std.proofs.Common.{◌≡◌, ℕ, zero, suc, ◌<◌, ◌≤◌, ◌⊎◌, ◌↔◌, List, [], ◌∷◌, ◌++◌, length, Some, sym, refl, ap, ◌∙◌, subst, inl, inr}
 use Rattle.std.proofs.lemmas.Bool.{cases_order}
 use Rattle.std.specs.List.{slice_get}
-use Rattle.theory.specs.Trees.{Tree, Label, Same, IsTree}
+use Rattle.theory.specs.Trees.{Tree, Label, IsTree}
 use Rattle.theory.specs.Equations.{Equation, is_node, equal, MeetsAll, Solves, Solvable, Entails, IsAtom}
-use Rattle.unify.specs.Cells.{Content, variable, leaf, node, Cell, content_at, joined_at, root}
+use Rattle.unify.specs.Cells.{Content, variable, leaf, node, Cell, content_at, root}
 use Rattle.unify.specs.Solved.{and_content, stated_from, stated, Solved}
 use Rattle.unify.specs.Readings.{reading}
-use Rattle.unify.specs.Unify.{State, Move, went, clash, unify, compare}
+use Rattle.unify.specs.Unify.{Move, went, clash, unify, compare}
 use Rattle.unify.specs.Writing.{write}
-use Rattle.unify.specs.Theorems.{Decides, IsNode, Unified, Compared}
+use Rattle.unify.specs.Theorems.{IsNode, Unified, Compared}
 use Rattle.unify.specs.Meaning.{Means, Equated, Entailed, MeaningIsKept}
 use Rattle.unify.proofs.Places.{none_some}
 use Rattle.unify.proofs.CellLaws.{content_past}

@@ -1,10 +1,10 @@
 -- The steps of the unifier keep its invariant, and its turns end.
-use Rattle.std.proofs.Common.{◌≡◌, ℕ, zero, suc, ◌+◌, ◌-◌, ◌<◌, ◌≤◌, Bool, true, false, eqb, ltb, ◌⊎◌, List, [], ◌∷◌, ◌++◌, length, Some, None, Option, sym, refl, ap, ◌∙◌, subst, subst₂, inl, inr, arith}
+use Rattle.std.proofs.Common.{◌≡◌, ℕ, zero, suc, ◌+◌, ◌-◌, ◌<◌, ◌≤◌, Bool, true, false, eqb, ltb, ◌⊎◌, List, [], ◌∷◌, length, Some, None, Option, sym, refl, ap, ◌∙◌, subst, subst₂, inl, inr, arith}
 use Rattle.std.proofs.lemmas.Bool.{eqb-true, eqb-false, ltb-true, ltb-false, cases_lt}
 use Rattle.std.specs.List.{slice_get, AllByRecursion}
 use Rattle.theory.specs.Trees.{Tree, Same}
 use Rattle.theory.specs.Equations.{Children}
-use Rattle.unify.specs.Cells.{Content, variable, leaf, node, Cell, most, content_at, joined_at, rejoin, rank, rank_of, root, unjoined}
+use Rattle.unify.specs.Cells.{Content, variable, leaf, node, Cell, most, content_at, joined_at, rejoin, rank, root, unjoined}
 use Rattle.unify.specs.Solved.{Matches, SameRoots, Descends, Solved}
 use Rattle.unify.specs.Unify.{State, Move, went, clash, start, link, link_down, next, after, clear, fits, link_if, meet_roots, meet, meet_all, meet_arguments, pay_to, pay, turn, settle, rest, join}
 use Rattle.unify.specs.Theorems.{Decides}
@@ -13,7 +13,7 @@ use Rattle.unify.proofs.CellLaws.{unjoined_few, content_past}
 use Rattle.unify.proofs.Roots.{IsVariable, root_some, root_ends, root_inside}
 use Rattle.unify.proofs.CellReads.{Reads, MeetsContent, reads_root}
 use Rattle.unify.proofs.Matching.{SameLength}
-use Rattle.unify.proofs.Growth.{More, root_on, one_root_on, same_roots_on, nth_front, nth_none}
+use Rattle.unify.proofs.Growth.{More, root_on, one_root_on, nth_front, nth_none}
 use Rattle.unify.proofs.Fitting.{ranks_apart, fit_down, fit_up, fit_written}
 use Rattle.unify.proofs.Invariant.{Inv, Follows, inv_descends, start_inv, next_inv, inv_rank, link_inv, more, new_down, here}
 

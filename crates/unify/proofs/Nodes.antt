@@ -1,17 +1,12 @@
 -- Each node written is among the equations stated.
-use Rattle.std.proofs.Common.{◌≡◌, ℕ, zero, suc, ◌+◌, ◌<◌, ◌↔◌, List, [], ◌∷◌, length, Some, None, Option, sym, refl, ap, ◌∙◌, subst, add-zero, add-suc, suc-add, zero-add}
+use Rattle.std.proofs.Common.{◌≡◌, ℕ, zero, suc, ◌+◌, List, [], ◌∷◌, Some, None, Option, sym, refl, ◌∙◌, subst, add-zero, add-suc, suc-add, zero-add}
 use Rattle.std.specs.List.{slice_get}
-use Rattle.theory.specs.Trees.{Tree, Label, Same}
-use Rattle.theory.specs.Equations.{Equation, is_leaf, is_node, equal, Meets, MeetsAll, Solves, Entails, IsAtom}
-use Rattle.unify.specs.Cells.{Content, variable, leaf, node, Cell, content_at, joined_at, root}
-use Rattle.unify.specs.Solved.{Solved, stated, stated_from, and_content, and_join}
-use Rattle.unify.specs.Readings.{reading}
+use Rattle.theory.specs.Trees.{Tree}
+use Rattle.theory.specs.Equations.{Equation, is_node, Meets, MeetsAll}
+use Rattle.unify.specs.Cells.{Content, variable, leaf, node, Cell, content_at}
+use Rattle.unify.specs.Solved.{stated, stated_from, and_content, and_join}
 use Rattle.unify.specs.Theorems.{IsNode}
 use Rattle.unify.proofs.Places.{none_some, some_same}
-use Rattle.unify.proofs.CellReads.{meets_reads, reads_root}
-use Rattle.unify.proofs.Fitting.{same_node, leaf_node}
-use Rattle.unify.proofs.ReadingMeets.{label_is, reading_solves}
-use Rattle.unify.proofs.Constants.{other, other_apart, other_small, constant, constant_is_tree}
 
 module _ {V : Type 0} where
   pub meets_nth : (ρ : ℕ → Tree V) (es : List (Equation V ℕ)) → MeetsAll ρ es → (k : ℕ) (e : Equation V ℕ) → slice_get es k ≡ Some e → Meets ρ e

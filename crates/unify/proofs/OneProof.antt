@@ -1,10 +1,10 @@
 -- Solved form has one proof at most, so it can be kept beside cells and taken out again.
-use Rattle.std.proofs.Common.{◌≡◌, ℕ, ◌<◌, ◌≤◌, List, [], ◌∷◌, refl}
-use mathlib.Core.HLevel.{Π_prop, →_prop, ×_prop}
+use Rattle.std.proofs.Common.{ℕ, ◌<◌, List, [], ◌∷◌, refl}
+use mathlib.Core.HLevel.{Π_prop, ×_prop}
 use native.Mathlib.Bridge.{le_prop}
 use native.Mathlib.Nat.{ℕ_set}
 use Rattle.std.specs.List.{AllByRecursion}
-use Rattle.unify.specs.Cells.{Content, variable, leaf, node, Cell, content_at, joined_at, rank, root}
+use Rattle.unify.specs.Cells.{Content, variable, leaf, node, Cell, content_at, root}
 use Rattle.unify.specs.Solved.{Matches, SameRoots, Lower, Descends, Agrees, Solved}
 
 below_prop : (n : ℕ) (xs : List ℕ) → IsProp (AllByRecursion (λ x. x < n) xs)

@@ -1,5 +1,5 @@
 -- The i-th argument of a node, and its tree.
-use Rattle.std.proofs.Common.{◌≡◌, ℕ, zero, suc, ◌+◌, ◌<◌, ◌≤◌, List, [], ◌∷◌, length, Some, None, Option, sym, refl, ap, ◌∙◌, subst, le_of_suc-le-suc, not-suc-le-zero, add-zero, add-suc, suc-add, arith}
+use Rattle.std.proofs.Common.{◌≡◌, ℕ, zero, suc, ◌+◌, ◌<◌, List, [], ◌∷◌, length, Some, None, Option, sym, refl, ap, ◌∙◌, subst, add-zero, add-suc, suc-add, arith}
 use Rattle.std.specs.List.{slice_get, AllByRecursion}
 use Rattle.theory.specs.Trees.{Tree, Same, child}
 use Rattle.theory.specs.Equations.{Children}

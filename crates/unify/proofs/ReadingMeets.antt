@@ -1,9 +1,9 @@
 -- The reading of solved cells meets what they state, and has the given trees at the open roots.
-use Rattle.std.proofs.Common.{◌≡◌, ℕ, zero, suc, ◌+◌, List, [], ◌∷◌, length, Some, None, Option, sym, refl, ap, ◌∙◌, subst, zero-add}
+use Rattle.std.proofs.Common.{◌≡◌, ℕ, ◌+◌, List, [], ◌∷◌, length, Some, sym, refl, ap, ◌∙◌, zero-add}
 use Rattle.std.specs.List.{slice_get}
 use Rattle.theory.specs.Trees.{Tree, Label, Same, IsTree, Place}
 use Rattle.theory.specs.Equations.{Solves}
-use Rattle.unify.specs.Cells.{Content, variable, leaf, node, Cell, content_at, joined_at, root}
+use Rattle.unify.specs.Cells.{Content, variable, leaf, node, Cell, content_at, root}
 use Rattle.unify.specs.Solved.{Matches, SameRoots, Solved, stated}
 use Rattle.unify.specs.Readings.{reading, label_here, label_below, label_of_argument, OpenRoot}
 use Rattle.unify.proofs.Places.{children_from}

@@ -1,8 +1,8 @@
 -- The reading of cells gives trees.
-use Rattle.std.proofs.Common.{◌≡◌, ℕ, zero, suc, ◌+◌, ◌<◌, ◌≤◌, List, [], ◌∷◌, ◌++◌, length, Some, None, Option, sym, refl, ap, ◌∙◌, subst, le_of_suc-le-suc, not-suc-le-zero, arith}
+use Rattle.std.proofs.Common.{◌≡◌, ℕ, zero, suc, ◌<◌, List, [], ◌∷◌, ◌++◌, length, Some, None, Option, refl, le_of_suc-le-suc, not-suc-le-zero, arith}
 use Rattle.std.specs.List.{slice_get}
-use Rattle.theory.specs.Trees.{Tree, Label, Same, IsTree, Present, Branches, InRange, Place}
-use Rattle.unify.specs.Cells.{Content, variable, leaf, node, Cell, content_at, joined_at, root}
+use Rattle.theory.specs.Trees.{Tree, Label, IsTree, Present, Branches, InRange, Place}
+use Rattle.unify.specs.Cells.{Content, variable, leaf, node, Cell, content_at, root}
 use Rattle.unify.specs.Solved.{Lower}
 use Rattle.unify.specs.Readings.{reading, label_here, label_below, label_of_argument}
 

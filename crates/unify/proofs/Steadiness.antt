@@ -1,12 +1,12 @@
 -- Every step of the unifier leaves its state steady.
-use Rattle.std.proofs.Common.{◌≡◌, ℕ, zero, suc, ◌+◌, ◌<◌, ◌≤◌, Bool, true, false, eqb, ltb, ◌⊎◌, List, [], ◌∷◌, ◌++◌, length, Some, None, Option, sym, refl, ap, ◌∙◌, subst, subst₂, inl, inr, le_trans, le_refl, arith, length-append}
+use Rattle.std.proofs.Common.{◌≡◌, ℕ, suc, ◌+◌, ◌<◌, ◌≤◌, Bool, true, false, eqb, ltb, ◌⊎◌, List, [], ◌∷◌, ◌++◌, length, Some, None, Option, sym, refl, ap, ◌∙◌, subst, subst₂, inl, inr, le_trans, le_refl, arith, length-append}
 use Rattle.std.proofs.lemmas.Bool.{eqb-false, ltb-true, ltb-false, cases_eq, cases_lt}
-use Rattle.std.specs.List.{slice_get, AllByRecursion}
-use Rattle.unify.specs.Cells.{Content, variable, leaf, node, Cell, most, content_at, joined_at, rejoin, rank, rank_of, root, unjoined}
-use Rattle.unify.specs.Solved.{Descends, Solved}
-use Rattle.unify.specs.Unify.{State, Move, went, clash, start, link, link_down, next, after, fits, link_if, meet_roots, meet, meet_all, meet_arguments, pay_to, pay, turn, settle, join}
+use Rattle.std.specs.List.{AllByRecursion}
+use Rattle.unify.specs.Cells.{Content, variable, leaf, node, Cell, most, content_at, joined_at, rejoin, rank, root, unjoined}
+use Rattle.unify.specs.Solved.{Solved}
+use Rattle.unify.specs.Unify.{State, Move, went, clash, start, link, link_down, next, after, fits, link_if, meet_roots, meet, meet_all, meet_arguments, pay_to, pay}
 use Rattle.unify.specs.Steady.{Steady, StaysSteady, StaysTrailed, reached}
-use Rattle.unify.proofs.Places.{none_some, some_same, nth_all, nth_inside}
+use Rattle.unify.proofs.Places.{some_same}
 use Rattle.unify.proofs.CellLaws.{unjoined_few, unjoined_rejoin, content_rejoin, content_past, rank_rejoin, length_rejoin, joined_here, joined_apart}
 use Rattle.unify.proofs.Roots.{IsVariable, root_ends, root_inside}
 use Rattle.unify.proofs.Fitting.{ranks_apart}

@@ -1,10 +1,10 @@
 -- The unifier's turns as a loop takes them: what is left to do stays the same from turn to turn.
-use Rattle.std.proofs.Common.{◌≡◌, ℕ, zero, suc, ◌+◌, ◌-◌, ◌<◌, ◌≤◌, Bool, true, false, eqb, ltb, ◌⊎◌, List, [], ◌∷◌, ◌++◌, length, Some, None, Option, sym, refl, ap, ◌∙◌, subst, inl, inr, arith}
+use Rattle.std.proofs.Common.{◌≡◌, ℕ, zero, suc, ◌+◌, ◌-◌, ◌<◌, ◌≤◌, Bool, true, false, eqb, ◌⊎◌, List, [], ◌∷◌, length, Some, None, sym, refl, ap, ◌∙◌, subst, inl, inr, arith}
 use Rattle.std.proofs.lemmas.Option.{slice_get_past}
 use Rattle.std.proofs.lemmas.Bool.{eq-eqb, ne_eqb, lt-ltb, le-ltb}
-use Rattle.std.specs.List.{slice_get, AllByRecursion}
-use Rattle.unify.specs.Cells.{Content, variable, leaf, node, Cell, content_at, joined_at, rank, root, rejoin, unjoined}
-use Rattle.unify.specs.Unify.{State, Move, went, clash, link, link_down, next, after, fits, link_if, meet_roots, meet, meet_all, meet_arguments, pay_to, pay, turn, settle, rest}
+use Rattle.std.specs.List.{slice_get}
+use Rattle.unify.specs.Cells.{Content, content_at, joined_at, rank, root, rejoin, unjoined}
+use Rattle.unify.specs.Unify.{State, went, clash, link, link_down, next, after, fits, link_if, meet_roots, meet, meet_all, meet_arguments, pay_to, pay, turn, settle, rest}
 use Rattle.unify.specs.Steady.{Steady, StaysSteady, reached}
 use Rattle.unify.proofs.Places.{nth_inside, nth_all}
 use Rattle.unify.proofs.CellLaws.{unjoined_rejoin}

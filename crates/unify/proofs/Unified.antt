@@ -1,12 +1,11 @@
 -- The unifier is right: what it agrees to, and what it refuses.
-use Rattle.std.proofs.Common.{◌≡◌, ℕ, zero, suc, ◌+◌, ◌<◌, ◌≤◌, Bool, true, false, ◌⊎◌, ◌↔◌, List, [], ◌∷◌, length, Some, None, Option, sym, refl, ap, ◌∙◌, subst, subst₂, inl, inr, arith}
+use Rattle.std.proofs.Common.{◌≡◌, ℕ, ◌<◌, ◌≤◌, Bool, true, false, ◌⊎◌, List, length, None, sym, refl, ap, ◌∙◌, subst, subst₂, inl, inr, arith}
 use Rattle.std.proofs.lemmas.Bool.{both_ways}
-use Rattle.std.specs.List.{slice_get, AllByRecursion}
 use Rattle.theory.specs.Trees.{Tree, Same}
 use Rattle.theory.specs.Equations.{MeetsAll}
 use Rattle.unify.specs.Cells.{Content, variable, leaf, node, Cell, most, content_at, joined_at, root}
 use Rattle.unify.specs.Solved.{Matches, SameRoots, Solved, stated}
-use Rattle.unify.specs.Unify.{State, Move, went, clash, clear, fits, join, unify}
+use Rattle.unify.specs.Unify.{State, Move, went, clash, fits, join, unify}
 use Rattle.unify.specs.Theorems.{Decides, SameContents, Unified}
 use Rattle.unify.proofs.Places.{nth_inside}
 use Rattle.unify.proofs.Roots.{IsVariable}

@@ -1,15 +1,15 @@
 -- A new cell leaves the others as they are, and keeps them solved.
-use Rattle.std.proofs.Common.{◌≡◌, ℕ, zero, suc, ◌+◌, ◌<◌, ◌≤◌, ◌⊎◌, List, [], ◌∷◌, ◌++◌, length, Some, None, Option, sym, refl, ap, ◌∙◌, subst, subst₂, inl, inr, le_of_suc-le-suc, not-suc-le-zero, add-zero, add-suc, suc-add, zero-add, arith, length-append}
+use Rattle.std.proofs.Common.{◌≡◌, ℕ, zero, suc, ◌+◌, ◌<◌, ◌≤◌, ◌⊎◌, List, [], ◌∷◌, ◌++◌, length, Some, None, Option, sym, refl, ap, ◌∙◌, subst, subst₂, inl, inr, le_of_suc-le-suc, not-suc-le-zero, add-zero, add-suc, suc-add, zero-add, arith}
 use Rattle.std.proofs.lemmas.Bool.{cases_lt, cases_order}
 use Rattle.std.specs.List.{AllByRecursion}
 use Rattle.theory.specs.Equations.{Equation}
-use Rattle.unify.specs.Cells.{Content, variable, leaf, node, Cell, most, content_at, joined_at, rank, rank_of, root}
+use Rattle.unify.specs.Cells.{Content, variable, leaf, node, Cell, most, content_at, joined_at, rank, rank_of}
 use Rattle.unify.specs.Solved.{and_content, and_join, stated_from, stated, Matches, SameRoots, Descends, Solved}
 use Rattle.unify.specs.Writing.{write, Writable, Wrote, WritingKeepsSolved}
 use Rattle.unify.proofs.Places.{none_some}
 use Rattle.unify.proofs.CellLaws.{content_past, joined_past}
 use Rattle.unify.proofs.Roots.{IsVariable, target_inside}
-use Rattle.unify.proofs.Growth.{More, matches_on}
+use Rattle.unify.proofs.Growth.{matches_on}
 
 module _ {V : Type 0} where
   pub content_before : (cs : List (Cell V)) (c : Content V) (i : ℕ) → i < length cs → content_at (write cs c) i ≡ content_at cs i

@@ -1,7 +1,7 @@
 -- Small slates worked through, with numbers for leaves. Assumes nothing.
 use Rattle.std.specs.Prelude.{◌≡◌, ℕ, Bool, true, false, List, [], ◌∷◌, nat_eq}
-use Rattle.unify.specs.Cells.{Content, variable, leaf, node, Cell}
-use Rattle.unify.specs.Unify.{State, Move, went, clash, unify, compare}
+use Rattle.unify.specs.Cells.{Content, variable, node, Cell}
+use Rattle.unify.specs.Unify.{Move, went, clash, unify, compare}
 use Rattle.unify.specs.Writing.{write}
 
 -- the slate with these contents, in their order

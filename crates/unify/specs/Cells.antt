@@ -1,5 +1,5 @@
 -- The cells of a slate, and the root that a chain of joins leads to. Assumes nothing.
-use Rattle.std.specs.Prelude.{◌≡◌, ℕ, zero, suc, ◌+◌, List, [], ◌∷◌, Some, None, Option}
+use Rattle.std.specs.Prelude.{ℕ, zero, suc, ◌+◌, List, [], ◌∷◌, Some, None, Option}
 
 -- what was written into a cell: an open variable, a leaf, or a node over other cells
 pub data Content (V : Type 0) : Type 0 where

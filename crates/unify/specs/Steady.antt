@@ -1,5 +1,5 @@
 -- What the loops of the unifier rely on, whatever they unify. Assumes nothing.
-use Rattle.std.specs.Prelude.{◌≡◌, ℕ, ◌+◌, ◌<◌, ◌≤◌, List, length}
+use Rattle.std.specs.Prelude.{◌≡◌, ◌+◌, ◌<◌, ◌≤◌, List, length}
 use Rattle.std.specs.List.{AllByRecursion}
 use Rattle.unify.specs.Cells.{Cell, most, unjoined}
 use Rattle.unify.specs.Solved.{Lower, Descends, Solved}

@@ -1,5 +1,5 @@
 -- A new cell after the others. Assumes nothing.
-use Rattle.std.specs.Prelude.{◌≡◌, ℕ, ◌<◌, List, [], ◌∷◌, ◌++◌, length, None}
+use Rattle.std.specs.Prelude.{◌≡◌, ◌<◌, List, [], ◌∷◌, ◌++◌, length, None}
 use Rattle.std.specs.List.{AllByRecursion}
 use Rattle.unify.specs.Cells.{Content, variable, leaf, node, Cell, most}
 use Rattle.unify.specs.Solved.{and_content, stated, Solved}

@@ -1,11 +1,11 @@
 -- What a field was read as, from the kind of field and the outcome of its tests.
-use Rattle.std.proofs.Common.{◌≡◌, ℕ, ◌<◌, ◌≤◌, Bool, true, false, ltb, List, [], ◌∷◌, length, get_or, drop, Some, None, Ok, Err, Option, Result, sym, refl, ap, ◌∙◌, subst, arith, Bor}
+use Rattle.std.proofs.Common.{◌≡◌, ℕ, ◌<◌, ◌≤◌, Bool, true, false, ltb, List, [], ◌∷◌, length, get_or, drop, Err, Option, Result, sym, refl, ap, ◌∙◌, subst, arith, Bor}
 use Rattle.std.proofs.lemmas.List.{length-map}
-use Rattle.theory.specs.Entries.{Part, variable, leaf, node}
+use Rattle.theory.specs.Entries.{Part, variable, node}
 use Rattle.book.specs.declared.entry.Node.{Node}
 use Rattle.book.specs.Answers.{listed}
 use Rattle.form.specs.declared.fault.Cause.{Cause}
-use Rattle.form.specs.declared.fault.Cause.TheVariants.{TooMuch, WrongCell, WrongLeaf}
+use Rattle.form.specs.declared.fault.Cause.TheVariants.{TooMuch, WrongCell}
 use Rattle.form.specs.declared.fault.Fault.{Fault}
 use Rattle.form.specs.Meanings.{Seen, cell, goals, every, inner_fault, leaf_seen, node_at, seen, shape, wrong}
 use Rattle.wire.specs.declared.field.Field.{Field}

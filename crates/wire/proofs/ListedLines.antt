@@ -1,8 +1,5 @@
 -- The lines of a listing, one entry more at the end.
-use Rattle.std.proofs.Common.{◌≡◌, ℕ, zero, suc, ◌+◌, ◌<◌, List, [], ◌∷◌, ◌++◌, length, take, Some, None, Option, sym, refl, ap, ◌∙◌, append_assoc, append-nil, add-zero, arith}
-use Rattle.std.specs.List.{slice_get}
-use Rattle.std.specs.Option.{option_map}
-use Rattle.std.proofs.lemmas.Option.{slice_get-get_or}
+use Rattle.std.proofs.Common.{◌≡◌, ℕ, zero, suc, ◌+◌, ◌<◌, List, [], ◌∷◌, ◌++◌, length, take, Some, None, sym, refl, ap, ◌∙◌, append_assoc, append-nil, add-zero, arith}
 use Rattle.theory.specs.Entries.{Entry, Kind, clause, cofact}
 use Rattle.book.specs.declared.entry.Outline.{Outline}
 use Rattle.book.specs.Answers.{kind_of, of_kind, outline_at, outline_of}

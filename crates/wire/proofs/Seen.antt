@@ -1,11 +1,11 @@
 -- What a field is seen as, kind by kind, from the outcome of its tests.
-use Rattle.std.proofs.Common.{◌≡◌, ℕ, ◌+◌, ◌*◌, ◌<◌, ◌≤◌, Bool, true, false, cond, not, eqb, ltb, leb, List, [], ◌∷◌, length, get_or, drop, Some, None, Option, sym, refl, ap, ◌∙◌, ⊎_elim, arith}
+use Rattle.std.proofs.Common.{◌≡◌, ℕ, ◌+◌, ◌*◌, ◌<◌, ◌≤◌, Bool, true, false, cond, not, eqb, ltb, leb, List, length, get_or, drop, Some, None, Option, sym, ap, ◌∙◌, ⊎_elim, arith}
 use Rattle.std.proofs.lemmas.Bool.{cases_lt, eq-eqb, le-leb, lt-leb}
 use Rattle.std.proofs.lemmas.Bool.Decides.{nat_tests}
-use Rattle.theory.specs.Entries.{Part, variable, leaf, node}
+use Rattle.theory.specs.Entries.{Part, variable, node}
 use Rattle.form.specs.declared.fault.Cause.{Cause}
 use Rattle.form.specs.declared.fault.Cause.TheVariants.{TooMuch, WrongCell, WrongLength}
-use Rattle.form.specs.Meanings.{Seen, Shape, between, cell, every, goals, judged, leaf_seen, node_at, seen, wrong, variable_field, leaf_field, node_field, goals_field}
+use Rattle.form.specs.Meanings.{Seen, Shape, between, cell, every, goals, leaf_seen, node_at, seen, wrong, variable_field, leaf_field, node_field, goals_field}
 
 has_length : (n m : ℕ) → n ≡ m → not (eqb n m) ≡ false
 has_length n m e = ap not (eq-eqb n m e)

@@ -1,7 +1,5 @@
-use Rattle.std.proofs.Common.{◌≤◌, map, length, take, arith}
+use Rattle.std.proofs.Common.{◌≤◌, length, arith}
 use Rattle.std.proofs.lemmas.List.{take_all}
-use Rattle.theory.specs.Entries.{PartsRules}
-use Rattle.book.specs.Answers.{part_of}
 use Rattle.book.proofs.Deciding.{yes_decides, no_decides, told_yes, told_no}
 use Rattle.book.proofs.Parts.{cell_breaks, cell_adds}
 use Rattle.book.proofs.rules.cells_keep.Goals as goal

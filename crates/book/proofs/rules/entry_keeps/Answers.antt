@@ -1,4 +1,4 @@
-use Rattle.std.proofs.Common.{◌≡◌, ◌≤◌, map, length, ⊎_elim, arith}
+use Rattle.std.proofs.Common.{⊎_elim, arith}
 use Rattle.std.proofs.lemmas.List.{length-map}
 use Rattle.book.specs.Answers.{part_of}
 use Rattle.book.proofs.Deciding.{decides_by, no_decides, told_yes, told_no}

@@ -1,4 +1,3 @@
-use Rattle.std.proofs.Common.{arith}
 use Rattle.book.proofs.Parts.{node_there, node_missing}
 use Rattle.book.proofs.rules.has_node.Goals as goal
 

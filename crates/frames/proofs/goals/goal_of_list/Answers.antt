@@ -1,4 +1,4 @@
-use Rattle.std.proofs.Common.{◌≡◌, ℕ, false, get_or, Some, None, sym, ap, ◌∙◌}
+use Rattle.std.proofs.Common.{ℕ, false, Some, None, sym, ap, ◌∙◌}
 use Rattle.std.specs.Option.{option_map}
 use Rattle.std.proofs.lemmas.Option.{slice_get-get_or, slice_get_past}
 use Rattle.frames.specs.declared.frame.Goal.{Goal}

@@ -1,7 +1,7 @@
-use Rattle.std.proofs.Common.{◌≡◌, ℕ, suc, ◌+◌, ◌<◌, ◌≤◌, List, length, get_or, Some, None, sym, refl, ap, ◌∙◌, subst, le_refl, add-one, arith}
+use Rattle.std.proofs.Common.{◌≡◌, ℕ, suc, ◌+◌, ◌≤◌, List, get_or, sym, ap, subst, le_refl, add-one, arith}
 use Rattle.theory.specs.Records as T
 use Rattle.frames.specs.declared.frame.Frame.{Frame}
-use Rattle.frames.specs.Goals.{above, Pends, Pending, Link, First}
+use Rattle.frames.specs.Goals.{above, Pends, Pending, First}
 use Rattle.frames.proofs.Following.{unset, frame_at, found, onward, last_goals}
 use Rattle.frames.proofs.goals.next_goal.Goals as goal
 

@@ -1,8 +1,8 @@
-use Rattle.std.proofs.Common.{◌≡◌, cond, eqb, get_or, Some, None, sym, ap, ◌∙◌}
+use Rattle.std.proofs.Common.{cond, eqb, None, sym, ap, ◌∙◌}
 use Rattle.std.specs.List.{slice_get}
 use Rattle.std.proofs.lemmas.Option.{slice_get-get_or}
 use Rattle.frames.specs.declared.frame.Cursor.{Cursor}
-use Rattle.frames.specs.Tries.{cursor_after, parent_of}
+use Rattle.frames.specs.Tries.{parent_of}
 use Rattle.frames.proofs.Following.{unset}
 use Rattle.frames.proofs.tries.after.Goals as goal
 

@@ -1,6 +1,4 @@
-use Rattle.std.proofs.Common.{◌≡◌, ℕ, suc, ◌+◌, ◌<◌, ◌≤◌, Bool, true, false, length, sym, refl, ap, ◌∙◌, subst, add-one, arith}
-use Rattle.std.specs.List.{slice_get}
-use Rattle.frames.specs.Tries.{entries_left, IsClause, NextEntry}
+use Rattle.std.proofs.Common.{◌<◌, length, refl, ◌∙◌, arith}
 use Rattle.frames.proofs.Entering.{none_left, first_inner, first_clause, one_over, small}
 use Rattle.frames.proofs.tries.next_entry.Goals as goal
 use Rattle.frames.proofs.tries.next_entry.Goals.{then-inner-via-then-inner, then-inner-via-else-inner+then-is_clause}

@@ -1,7 +1,6 @@
-use Rattle.std.proofs.Common.{◌≡◌, suc, ◌≤◌, get_or, sym, refl, ap, ◌∙◌, subst, arith}
+use Rattle.std.proofs.Common.{◌≡◌, suc, refl, ap, ◌∙◌, subst, arith}
 use Rattle.frames.specs.Goals.{above}
-use Rattle.frames.specs.Tries.{Chain, Chained}
-use Rattle.frames.proofs.Following.{unset}
+use Rattle.frames.specs.Tries.{Chain}
 use Rattle.frames.proofs.Climbing.{chain_at, path_here, path_on, path_end}
 use Rattle.frames.proofs.tries.on_path.Goals as goal
 

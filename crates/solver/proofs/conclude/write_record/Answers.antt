@@ -1,4 +1,4 @@
-use Rattle.std.proofs.Common.{◌≡◌, ◌≤◌, length, take, ap, ◌∙◌, subst, arith}
+use Rattle.std.proofs.Common.{◌≡◌, take, ap, ◌∙◌, arith}
 use Rattle.solver.specs.Solver.{steps_written}
 use Rattle.solver.proofs.Recording.{none_written, one_written}
 use Rattle.solver.proofs.conclude.write_record.Goals as goal

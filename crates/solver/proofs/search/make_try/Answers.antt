@@ -1,6 +1,5 @@
-use Rattle.std.proofs.Common.{◌≡◌, ◌-◌, ◌<◌, ◌≤◌, sym, refl, ◌∙◌, subst, arith}
+use Rattle.std.proofs.Common.{◌-◌, ◌<◌, ◌≤◌, ◌∙◌, subst}
 use Rattle.cells.proofs.Sameness.{decided}
-use Rattle.solver.specs.Steps.{size_at}
 use Rattle.solver.specs.Searching.{origin}
 use Rattle.solver.proofs.Moments.{spent, full, scarce, takeable, after_fall, after_step}
 use Rattle.solver.proofs.search.make_try.Goals as goal

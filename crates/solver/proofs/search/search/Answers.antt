@@ -1,4 +1,4 @@
-use Rattle.std.proofs.Common.{◌≡◌, sym, subst, subst₂}
+use Rattle.std.proofs.Common.{sym, subst, subst₂}
 use Rattle.cells.proofs.Sameness.{decided}
 use Rattle.solver.specs.declared.standing.Ending.TheVariants.{Failed}
 use Rattle.solver.specs.Searching.{origin, Running, Finished}

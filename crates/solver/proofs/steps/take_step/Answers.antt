@@ -1,9 +1,7 @@
-use Rattle.std.proofs.Common.{◌≡◌, ℕ, suc, ◌+◌, ◌<◌, ◌≤◌, true, false, ◌∷◌, length, set, Some, sym, refl, ap, ◌∙◌, subst, add-one, arith, length-set}
-use Rattle.std.specs.List.{slice_get}
+use Rattle.std.proofs.Common.{false, ◌∷◌, set, refl, subst, add-one, arith, length-set}
 use Rattle.attempts.specs.Attempts.{Attempted}
-use Rattle.frames.specs.Goals.{Pends}
 use Rattle.frames.proofs.Pushing.{nth_set_apart, nth_set_here, pends_after}
-use Rattle.solver.specs.Steps.{parts_for, target, frame_of, Stepped}
+use Rattle.solver.specs.Steps.{parts_for, target, frame_of}
 use Rattle.solver.proofs.Stepping.{fallen}
 use Rattle.solver.proofs.steps.take_step.Goals as goal
 

@@ -1,7 +1,5 @@
-use Rattle.std.proofs.Common.{◌≡◌, ℕ, List, [], length, get_or, sym, subst, subst₂}
+use Rattle.std.proofs.Common.{sym, subst, subst₂}
 use Rattle.attempts.specs.Attempts.{Tryable, Attempted}
-use Rattle.frames.proofs.Following.{unset}
-use Rattle.solver.specs.Steps.{parts_for, target}
 use Rattle.solver.proofs.Stepping.{loop_formed, loop_size, loop_parts, loop_target}
 use Rattle.solver.proofs.steps.try_step.Goals as goal
 

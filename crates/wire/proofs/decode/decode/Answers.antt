@@ -1,5 +1,5 @@
-use Rattle.std.proofs.Common.{◌≡◌, ◌≤◌, length, refl, ap, arith, ltb-false}
-use Rattle.std.proofs.lemmas.List.{length-take, length-drop, take_rest}
+use Rattle.std.proofs.Common.{◌≤◌, length, refl, ap, arith, ltb-false}
+use Rattle.std.proofs.lemmas.List.{length-drop, take_rest}
 use Rattle.form.specs.Meanings.{shape}
 use Rattle.wire.proofs.decode.decode.Goals as goal
 

@@ -1,4 +1,4 @@
-use Rattle.std.proofs.Common.{◌≡◌, Some, Option, sym, ap, ◌∙◌, arith}
+use Rattle.std.proofs.Common.{Some, sym, ap, ◌∙◌, arith}
 use Rattle.form.proofs.Steps.{meaning_long, meaning_short}
 use Rattle.wire.proofs.FaultsFound.{err_is}
 use Rattle.wire.proofs.inspect.inspect.Goals as goal

@@ -1,4 +1,4 @@
-use Rattle.std.proofs.Common.{◌≡◌, sym, ◌∙◌}
+use Rattle.std.proofs.Common.{sym, ◌∙◌}
 use Rattle.wire.proofs.Filling.{fills_field}
 use Rattle.wire.proofs.put.put_leaf.Goals as goal
 

@@ -1,4 +1,4 @@
-use Rattle.std.proofs.Common.{◌≡◌, sym, refl, ap}
+use Rattle.std.proofs.Common.{sym, refl, ap}
 use Rattle.std.specs.List.{slice_get}
 use Rattle.form.specs.Forms.{entry_form}
 use Rattle.wire.specs.Writes.{shown}

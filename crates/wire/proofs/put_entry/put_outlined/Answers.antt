@@ -1,4 +1,4 @@
-use Rattle.std.proofs.Common.{◌≡◌, ◌+◌, length, refl, arith}
+use Rattle.std.proofs.Common.{◌+◌, length, refl, arith}
 use Rattle.std.specs.List.{slice_get, flat_map}
 use Rattle.form.specs.Forms.{part_form}
 use Rattle.wire.specs.Writes.{parts_in}

@@ -1,6 +1,6 @@
 use Rattle.std.proofs.Common.{[], Some, sym, ap, ◌∙◌}
 use Rattle.form.proofs.Steps.{row_part}
-use Rattle.wire.proofs.FirstEntries.{fits_in, row_step}
+use Rattle.wire.proofs.FirstEntries.{row_step}
 use Rattle.wire.proofs.read_entry.next_entry.Goals as goal
 
 pub returns-in-Some : goal.returns-in-Some

@@ -1,4 +1,4 @@
-use Rattle.std.proofs.Common.{◌≡◌, length, refl, ap, ◌∙◌, arith}
+use Rattle.std.proofs.Common.{length, refl, ap, ◌∙◌, arith}
 use Rattle.form.specs.Forms.{entry_form}
 use Rattle.wire.proofs.Bounds.{few_entries}
 use Rattle.wire.proofs.Filling.{joined_all, long_next}

@@ -1,4 +1,4 @@
-use Rattle.std.proofs.Common.{◌≡◌, length, ap, arith}
+use Rattle.std.proofs.Common.{length, ap, arith}
 use Rattle.book.specs.Answers.{part_of}
 use Rattle.book.proofs.Listed.{length_listed}
 use Rattle.form.specs.Forms.{part_form}

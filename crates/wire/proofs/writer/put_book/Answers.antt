@@ -1,4 +1,4 @@
-use Rattle.std.proofs.Common.{◌≡◌, refl, arith}
+use Rattle.std.proofs.Common.{refl, arith}
 use Rattle.form.specs.Forms.{entry_form}
 use Rattle.wire.proofs.Filling.{fills_next, fills_none, fills_same, joined_all, room_next}
 use Rattle.wire.proofs.writer.put_book.Goals as goal

@@ -1,5 +1,5 @@
 use Rattle.std.proofs.Common.{sym, arith}
-use Rattle.leaf.specs.Letters.{letter_below, letter_in, letter_past}
+use Rattle.leaf.specs.Letters.{letter_in, letter_past}
 use Rattle.leaf.proofs.shelf_mark.Letter.from_code.Goals as goal
 
 pub returns-in-65-to-90 : goal.returns-in-65-to-90
