@@ -14,9 +14,9 @@ use Rattle.solver.specs.Searching.{frame_steps, outcome_of}
 
 -- the answer of solve; the record of a grant stands in the first steps of the record list
 abbrev pub solved_or : List Step → Result Solved Refusal → Answer
-solved_or record-list (Ok (Granted count n)) = grants count (steps_of (take n record-list))
-solved_or record-list (Ok (Failed count)) = fails count
-solved_or record-list (Err e) = refused (refusal_of e)
+solved_or record_list (Ok (Granted count n)) = grants count (steps_of (take n record_list))
+solved_or record_list (Ok (Failed count)) = fails count
+solved_or record_list (Err e) = refused (refusal_of e)
 
 -- the record list after solve: a grant alters only its first steps, and all else leaves it unaltered
 abbrev pub RecordLeft : List Step → List Step → Result Solved Refusal → Type 0

@@ -175,6 +175,11 @@ module _ {V : Type 0} (same : V → V → Bool) (open_joins : Bool) where
       StaysSteady s (reached (meet same open_joins s x y))
   meet_steady s st x y hx hy = (meet_trailed s st x y hx hy).stays
 
+  -- for meetings of arguments
+  pub meet_all_steady : (xs ys : List ℕ) (s : State V) → Steady s → AllByRecursion (λ x. x < length s.cells) xs → AllByRecursion (λ y. y < length s.cells) ys →
+      StaysSteady s (reached (meet_all same open_joins s xs ys))
+  meet_all_steady xs ys s st hx hy = (meet_all_trailed xs ys s st hx hy).stays
+
   -- and for paying
   pub pay_steady : (s : State V) → Steady s → (i : ℕ) → StaysSteady s (reached (pay same open_joins s i))
   pay_steady s st i = (pay_trailed s st i).stays

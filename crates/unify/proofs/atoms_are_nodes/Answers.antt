@@ -1,6 +1,5 @@
 use Rattle.unify.proofs.Meant.{own_atoms}
 use Rattle.unify.proofs.atoms_are_nodes.Goals as goal
 
--- src/lib.rt:28:1
 pub returns : goal.returns
 returns g c = λ cells ok i. own_atoms cells ok i

@@ -1,6 +1,5 @@
 use Rattle.unify.proofs.Written.{writing}
 use Rattle.unify.proofs.writing_keeps_solved.Goals as goal
 
--- src/lib.rt:6:1
 pub returns : goal.returns
 returns g c = writing _

@@ -4,7 +4,6 @@ use Rattle.unify.proofs.Roots.{root_some, root_none, target_inside}
 use Rattle.cells.specs.Cells.{cell_of, cells_of}
 use Rattle.cells.proofs.chains.root.Goals as goal
 
--- src/lib.rt:47:5
 pub loop-next-preserved : goal.loop-next-preserved
 loop-next-preserved g c =
     let cs = cells_of c.args.cells.now in
@@ -17,7 +16,6 @@ loop-next-preserved g c =
       sym (root_some cs c.requires.descends c.loop-next.at c.in-Some.next e) ∙ c.loop-next.invariant.1,
     )
 
--- src/lib.rt:42:1
 pub returns : goal.returns
 returns g c = record {
   is = sym (root_none (cells_of c.args.cells.now) c.loop-next.at (sym c.in_default.ensures))
