@@ -7,4 +7,5 @@ pub mod meaning;
 pub mod refusal;
 pub mod slate;
 
+// What lies in a slate, for those who call one.
 pub use cells::cell;

@@ -71,7 +71,7 @@ fn annexes_too_long_for_bytes_are_refused(rt: HostRuntime) -> Result<(), Fail> {
     assert_eq!(rt; book.len(), 286);
     let mut out = [7; 3];
     assert_eq!(rt;
-        write::<AccessionNumber, Annex<ByteBook<AccessionNumber>, ByteBook<AccessionNumber>>,>(
+        write::<AccessionNumber, Annex<ByteBook<AccessionNumber>, ByteBook<AccessionNumber>>>(
             &book, &mut out
         ),
         Err(WriteRefusal::TooMuch)
