@@ -4,7 +4,7 @@ use Rattle.std.proofs.Common.{sym, ◌∙◌, ap, add-zero, arith}
 use Rattle.std.specs.List.{slice_get}
 use Rattle.std.proofs.lemmas.Option.{slice_get-get_or, slice_get_past}
 use Rattle.std.proofs.lemmas.Bool.{lt-ltb, le-ltb, ltb-true, ltb-false}
-use Rattle.leaf.specs.declared.shelf_mark.Letter.{Letter}
+use Rattle.leaf.specs.declared.letter.Letter.{Letter}
 use Rattle.leaf.specs.ShelfMarks.{letters, code, letter_of}
 
 -- the letters' codes count up from a number

@@ -2,7 +2,7 @@
 use Rattle.std.specs.Prelude.{◌≡◌, ℕ, ◌+◌, ◌*◌, ◌/◌, ◌%◌, ◌<◌, not, List, [], ◌∷◌, length, is_some, Some, None, Option, refl}
 use Rattle.std.proofs.Common.{sym, ◌∙◌, ap, arith}
 use Rattle.std.specs.Option.{option_map}
-use Rattle.leaf.specs.declared.shelf_mark.Letter.{Letter}
+use Rattle.leaf.specs.declared.letter.Letter.{Letter}
 use Rattle.leaf.specs.declared.shelf_mark.ShelfMark.{ShelfMark}
 use Rattle.leaf.specs.Bytes.{Bytes, two_bytes}
 use Rattle.leaf.specs.ShelfMarks.{code, letter_of, mark_bytes, mark_of, no_letter}

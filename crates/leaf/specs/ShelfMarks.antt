@@ -1,9 +1,9 @@
 -- Shelf marks as bytes: a capital letter's code, then a number in two bytes. Assumes nothing.
-use Rattle.std.specs.Prelude.{ℕ, ◌+◌, ◌-◌, ◌*◌, Bool, true, false, cond, List, [], ◌∷◌, None, Option, ◌==◌, nat_lt}
+use Rattle.std.specs.Prelude.{ℕ, ◌+◌, ◌-◌, ◌*◌, Bool, true, cond, List, [], ◌∷◌, None, Option, nat_lt}
 use Rattle.std.specs.List.{slice_get}
 use Rattle.std.specs.Option.{option_map}
-use Rattle.leaf.specs.declared.shelf_mark.Letter.{Letter}
-use Rattle.leaf.specs.declared.shelf_mark.Letter.TheVariants.{A, B, C, D, E, F, G, H, I, J, K, L, M, N, O, P, Q, R, S, T, U, V, W, X, Y, Z}
+use Rattle.leaf.specs.declared.letter.Letter.{Letter}
+use Rattle.leaf.specs.declared.letter.Letter.TheVariants.{A, B, C, D, E, F, G, H, I, J, K, L, M, N, O, P, Q, R, S, T, U, V, W, X, Y, Z}
 use Rattle.leaf.specs.declared.shelf_mark.ShelfMark.{ShelfMark}
 use Rattle.leaf.specs.Bytes.{two_bytes}
 
@@ -43,10 +43,6 @@ code Z = 90
 -- the letter whose code a number is: the letters begin at 65
 abbrev pub letter_of : ℕ → Option Letter
 letter_of n = cond (nat_lt n 65) None (slice_get letters (n - 65))
-
--- the same letter and the same number
-abbrev pub alike_marks : ShelfMark → ShelfMark → Bool
-alike_marks x y = cond (code x.letter == code y.letter) (x.number == y.number) false
 
 -- the bytes of a shelf mark
 abbrev pub mark_bytes : ShelfMark → List ℕ

@@ -10,13 +10,7 @@ use crate::output::{TooShort, put};
 pub struct AccessionNumber(pub u32);
 
 impl Leaf for AccessionNumber {
-    ghost alike = { λ x y. (x.0 == y.0) };
-
     ghost decides = { Prim.search rules };
-
-    fn same(&self, other: &AccessionNumber) -> bool {
-        self.0 == other.0
-    }
 }
 
 // Four bytes, the high byte first; every four bytes are a number.
@@ -44,18 +38,11 @@ impl WireLeaf for AccessionNumber {
     }
 
     fn read(from: &[u8]) -> Option<AccessionNumber> {
-        match from {
-            [a, b, c, d] => {
-                let high = u32::from(*a) * 256 + u32::from(*b);
-                let low = u32::from(*c) * 256 + u32::from(*d);
-                Some(AccessionNumber(high * 65536 + low))
-            }
-            _ => None,
-        }
+        let bytes = from.try_into().ok()?;
+        Some(AccessionNumber(u32::from_be_bytes(bytes)))
     }
 
     fn write(&self, out: &mut [u8]) -> Result<usize, TooShort> {
-        let number = self.0;
-        put(out, &number.to_be_bytes())
+        put(out, &self.0.to_be_bytes())
     }
 }

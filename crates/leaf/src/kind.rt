@@ -4,16 +4,10 @@ ghost use Rattle.leaf.specs.Outputs.{Fills, Short};
 
 use crate::output::TooShort;
 
-// A kind of leaf. The meaning of a leaf is its value, and the one question is whether two values are the same.
-pub trait Leaf: Copy {
-    // the test that decides whether two values are the same
-    ghost alike: { Self → Self → Bool };
-
-    // Whether the two values are the same.
-    fn same(&self, other: &Self) -> bool
-        ensures { result ≡ alike self.now other.now };
-
-    ghost decides: { (x y : Self) → Decides (alike x y) (x ≡ y) };
+// A kind of leaf. The meaning of a leaf is its value, and the one question is whether two values are the same: `==` says
+// just that.
+pub trait Leaf: Copy + Eq {
+    ghost decides: { (x y : Self) → Decides (Self.eq x y) (x ≡ y) };
 }
 
 // A kind of leaf that can be written as bytes, always as many as the kind is wide.

@@ -3,5 +3,6 @@
 
 pub mod accession_number;
 pub mod kind;
+pub mod letter;
 pub mod output;
 pub mod shelf_mark;

@@ -13,53 +13,39 @@ ghost use Rattle.searching.specs.Table.{executed, table};
 
 // Whatever the executable search comes to is what the definition of searches gives, and after a grant its cells
 // mean what is known then.
-pub fn search_is_right<V>() -> u8
+pub fn search_is_right<V>()
     ensures { SearchIsRight V }
-{
-    0
-}
+{}
 
 // The executable check gives the verdict that the definition of check gives.
-pub fn check_is_right<V>() -> u8
+pub fn check_is_right<V>()
     ensures { CheckIsRight V }
-{
-    0
-}
+{}
 
 // The answer of every call that is executed over cells is the defined one, and the cells that the call leaves mean
 // what is known after it.
-pub fn answers_are_right<V>() -> u8
+pub fn answers_are_right<V>()
     ensures { AnswersAreRight V }
-{
-    0
-}
+{}
 
 // A sitting that is executed from a wiped slate on is right.
-pub fn sittings_are_right<V>() -> u8
+pub fn sittings_are_right<V>()
     ensures { SittingsAreRight V }
-{
-    0
-}
+{}
 
 // Where a search has two turns for each try of its budget, and one more, every call comes to an answer.
-pub fn turns_suffice<V>() -> u8
+pub fn turns_suffice<V>()
     ensures { TurnsSuffice V }
-{
-    0
-}
+{}
 
 // Whatever calls are made, over any kind of leaf whose sameness is tested, some right sitting has just these calls.
-pub fn every_sitting_comes_out<V>() -> u8
+pub fn every_sitting_comes_out<V>()
     ensures { EverySittingComesOut V }
-{
-    0
-}
+{}
 
 // Every worked case comes out as the table states: executed call by call it gives the stated answers, so each of
 // them is the defined one.
-pub fn worked_cases_come_out() -> u8
+pub fn worked_cases_come_out()
     ensures executed { map executed table ≡ map (λ c. Some c.sitting) table }
     ensures right { AllByRecursion (λ c. BookRules c.book × Right c.book c.supplied c.sitting) table }
-{
-    0
-}
+{}

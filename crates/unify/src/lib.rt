@@ -9,51 +9,37 @@ ghost use Rattle.unify.specs.Cases.{WorkedCases};
 ghost use Rattle.unify.specs.Writing.{WritingKeepsSolved};
 
 // No cells are solved, and a new cell keeps them so.
-pub fn writing_keeps_solved<L>() -> u8
+pub fn writing_keeps_solved<L>()
     ensures { WritingKeepsSolved L }
-{
-    0
-}
+{}
 
 // Solved cells have a reading for every choice of trees at the open roots.
-pub fn solved_cells_have_readings<L>() -> u8
+pub fn solved_cells_have_readings<L>()
     ensures { SolvedCellsHaveReadings L }
-{
-    0
-}
+{}
 
 // Where the unifier goes well, just the readings that give the two terms one tree are left; else there are none.
-pub fn unify_is_right<L>() -> u8
+pub fn unify_is_right<L>()
     ensures { UnifyIsRight L }
-{
-    0
-}
+{}
 
 // The comparison says whether every reading gives the two terms one tree; if not, one tells them apart.
-pub fn compare_is_right<L>() -> u8
+pub fn compare_is_right<L>()
     ensures { CompareIsRight L }
-{
-    0
-}
+{}
 
 // A term is a node, or joined to one, exactly when a node stands at its root.
-pub fn atoms_are_nodes<L>() -> u8
+pub fn atoms_are_nodes<L>()
     ensures { AtomsAreNodes L }
-{
-    0
-}
+{}
 
 // Whatever equations cells mean: writing adds to them, unifying adds the new one where that leaves a reading,
 // comparing says what they entail, and roots say which terms are atoms.
-pub fn meaning_is_kept<L>() -> u8
+pub fn meaning_is_kept<L>()
     ensures { MeaningIsKept L }
-{
-    0
-}
+{}
 
 // Loops with the same tree are equal; open cells differ until they are equated; argument counts clash.
-pub fn worked_cases() -> u8
+pub fn worked_cases()
     ensures { WorkedCases }
-{
-    0
-}
+{}
