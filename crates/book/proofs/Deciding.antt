@@ -1,5 +1,7 @@
 -- Tests that decide a fact.
-use Rattle.std.proofs.Common.{◌≡◌, ℕ, Bool, true, false, Decides, sym, refl, subst, arith}
+use Rattle.std.proofs.Common.{◌≡◌, ℕ, ◌<◌, Bool, true, false, List, [], ◌∷◌, length, Decides, MatchBool, sym, refl, subst, arith}
+use Rattle.std.specs.List.{AllByRecursion, AllWithin, HoldsAt}
+use Rattle.std.proofs.ByRecursion.{All-get_or, all_from_every}
 
 pub yes_decides : {P : Type 0} → P → Decides true P
 yes_decides p = ((λ _. p), λ _. refl)
@@ -21,3 +23,11 @@ false_decides {P} r e f = subst (λ b. Decides b P) (sym e) (no_decides f)
 -- a test decides what follows from its fact, and what its fact follows from
 pub decides_by : {P Q : Type 0} (r : Bool) → Decides r P → (P → Q) → (Q → P) → Decides r Q
 decides_by r d f b = ((λ t. f (d.0 t)), λ q. d.1 (b q))
+
+-- a test of each item, which ends at the first that fails it, decides whether all pass
+pub decides_all : {X : Type 0} (P : X → Type 0) (r : Bool) (xs : List X) →
+    MatchBool r (AllWithin P xs 0 (length xs)) ((k : ℕ) × (k < length xs) × HoldsAt (λ x. P x → ⊥) xs k) →
+    Decides r (AllByRecursion P xs)
+decides_all P true xs h = yes_decides (all_from_every P xs h)
+decides_all P false [] h = absurd (omega (arith, h.1))
+decides_all P false (x ∷ xs) h = no_decides λ all. h.2 x (All-get_or P (x ∷ xs) h.0 x h.1 all)

@@ -1,12 +1,12 @@
 -- Annexes: the entries of one book, then those of another. Assumes nothing.
-use Rattle.std.specs.Prelude.{◌≡◌, ℕ, List, ◌++◌, take, None}
+use Rattle.std.specs.Prelude.{◌≡◌, ℕ, List, ◌++◌, take, Some, None, Option}
 use Rattle.std.proofs.Math.Logic.{∥∥₁_elim, ∥∥₁_prop}
 use Rattle.std.proofs.Common.{arith}
 use Rattle.std.proofs.ByRecursion.{All-append, All-take}
 use Rattle.std.proofs.lemmas.List.{length-take}
 use Rattle.std.specs.List.{slice_get}
-use Rattle.book.specs.declared.place.Place.{Place}
-use Rattle.book.specs.declared.place.Place.TheVariants.{First, Second, Nowhere}
+use Rattle.book.specs.declared.annex.Place.{Place}
+use Rattle.book.specs.declared.annex.Place.TheVariants.{First, Second}
 use Rattle.theory.specs.Entries.{BookRules, Entry, EntryRules}
 
 module _ {V : Type 0} where
@@ -25,7 +25,7 @@ module _ {V : Type 0} where
       } ∣₁
 
   -- the entry with that number is one of the first book, or has another number in the second, or is not there
-  abbrev pub LiesIn : List (Entry V) → List (Entry V) → ℕ → Place → Type 0
-  LiesIn es fs i First = slice_get (annexed es fs) i ≡ slice_get es i
-  LiesIn es fs i (Second k) = slice_get (annexed es fs) i ≡ slice_get fs k
-  LiesIn es fs i Nowhere = slice_get (annexed es fs) i ≡ None
+  abbrev pub LiesIn : List (Entry V) → List (Entry V) → ℕ → Option Place → Type 0
+  LiesIn es fs i (Some First) = slice_get (annexed es fs) i ≡ slice_get es i
+  LiesIn es fs i (Some (Second k)) = slice_get (annexed es fs) i ≡ slice_get fs k
+  LiesIn es fs i None = slice_get (annexed es fs) i ≡ None

@@ -1,5 +1,5 @@
 -- What the values of a book's answers mean, and the answer to each question by the book's entries. Assumes nothing.
-use Rattle.std.specs.Prelude.{ℕ, List, ◌++◌, length, take, replicate, Some, None, Option}
+use Rattle.std.specs.Prelude.{ℕ, List, ◌++◌, length, take, replicate, Some, None, Option, codes}
 use Rattle.std.specs.List.{slice_get}
 use Rattle.std.specs.Option.{option_map}
 use Rattle.theory.specs.Entries.{Entry, Kind, clause, cofact, Part, variable, leaf, node}
@@ -14,6 +14,11 @@ use Rattle.book.specs.declared.entry.Outline.{Outline}
 abbrev pub kind_of : EntryKind → Kind
 kind_of Clause = clause
 kind_of CoFact = cofact
+
+-- the word for a kind
+abbrev pub kind_word : Kind → List ℕ
+kind_word clause = codes "clause"
+kind_word cofact = codes "cofact"
 
 -- the value that stands for a kind
 abbrev pub of_kind : Kind → EntryKind

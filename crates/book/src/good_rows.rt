@@ -1,6 +1,7 @@
 ghost use Rattle.book.specs.Tables.{GoodRows};
 
 use crate::entry::EntryCell;
+use crate::interface::MOST_ENTRIES;
 use crate::rules::row_keeps;
 use crate::table::Row;
 use leaf::kind::Leaf;
@@ -9,13 +10,8 @@ use leaf::kind::Leaf;
 pub fn good_rows<L: Leaf>(rows: &[Row], cells: &[EntryCell<L>]) -> usize
     ensures { GoodRows cells.now rows.now result }
 {
-    for (n, row) in rows.iter().enumerate() {
-        if n >= 1024 {
-            return n;
-        }
-        if !row_keeps(cells, row) {
-            return n;
-        }
-    }
-    rows.len()
+    let rows = &rows[..rows.len().min(MOST_ENTRIES)];
+    rows.iter()
+        .position(|row| !row_keeps(cells, row))
+        .unwrap_or(rows.len())
 }

@@ -6,11 +6,12 @@ ghost use Rattle.book.specs.Answers.{outline_at, cell_at, goal_at, part_of};
 use crate::entry::{EntryCell, Outline};
 use leaf::kind::Leaf;
 
+// A book has at most so many entries.
+pub const MOST_ENTRIES: usize = 1024;
+
 // A book of rules. Its meaning is a list of entries; every question is answered by it, and changes nothing.
 pub trait Book<L: Leaf> {
     ghost entries: { Self → List (Entry L) };
-
-    ghost rules: { (b : Self) → ∥ BookRules (entries b) ∥₁ };
 
     // How many entries there are.
     fn len(&self) -> usize
@@ -27,4 +28,7 @@ pub trait Book<L: Leaf> {
     // One body goal of the entry, by its cell; none where there is no such entry or goal.
     fn goal(&self, entry: usize, goal: usize) -> Option<u8>
         ensures { result ≡ goal_at (entries self.now) «entry» «goal» };
+
+    // the entries keep the rules of a book
+    ghost rules: { (b : Self) → ∥ BookRules (entries b) ∥₁ };
 }

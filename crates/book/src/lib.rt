@@ -5,8 +5,6 @@ pub mod annex;
 pub mod entry;
 mod good_rows;
 pub mod interface;
-mod place;
-mod questions;
 pub mod rules;
 pub mod table;
 pub mod table_book;

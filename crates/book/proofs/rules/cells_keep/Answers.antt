@@ -1,21 +1,18 @@
-use Rattle.std.proofs.Common.{◌≤◌, length, arith}
-use Rattle.std.proofs.lemmas.List.{take_all}
-use Rattle.book.proofs.Deciding.{yes_decides, no_decides, told_yes, told_no}
-use Rattle.book.proofs.Parts.{cell_breaks, cell_adds}
+use Rattle.std.proofs.Common.{ℕ, rules, tests}
+use Rattle.std.proofs.lemmas.Iterator.{cases_from_all, YieldsList-from_slice}
+use Rattle.std.proofs.lemmas.Iterator.Consumers.{YieldsList-from_enumerate}
+use Rattle.theory.specs.Entries.{PartRules}
+use Rattle.book.specs.declared.entry.EntryCell.{EntryCell}
+use Rattle.book.specs.Answers.{part_of}
+use Rattle.book.proofs.Deciding.{decides_all}
+use Rattle.book.proofs.Parts.{parts_decided}
 use Rattle.book.proofs.rules.cells_keep.Goals as goal
-
-pub returns-then-not-cell_keeps : goal.returns-then-not-cell_keeps
-returns-then-not-cell_keeps g c =
-    no_decides
-    (cell_breaks c.args.cells.now c.loop-place.place c.index-cells-place.result (omega arith)
-    c.index-cells-place.is (told_no _ c.cell_keeps.ensures c.if-not-cell_keeps.true))
-
-pub loop-place-preserved : goal.loop-place-preserved
-loop-place-preserved g c =
-    cell_adds c.args.cells.now c.loop-place.place c.index-cells-place.result (omega arith)
-    c.index-cells-place.is c.loop-place.invariant (told_yes _ c.cell_keeps.ensures c.if-not-cell_keeps.false)
 
 pub returns : goal.returns
 returns g c =
-    let h : length c.args.cells.now ≤ c.loop-place.place = omega arith in
-    yes_decides (rw (take_all c.loop-place.place c.args.cells.now h) at c.loop-place.invariant)
+    let xs = c.args.cells.now in
+    let P : ℕ × EntryCell g.row.L.Denot → Type 0 = λ p. PartRules p.0 (part_of p.1) in
+    parts_decided _ xs
+    (decides_all P _ _
+    (cases_from_all _ _ _ P (λ p. P p → ⊥) c.all.ensures.ran (YieldsList-from_enumerate (YieldsList-from_slice xs cc) cc)
+    (λ x q k. search (rules, tests)) (λ x q k. search (rules, tests))))

@@ -6,8 +6,8 @@ pub returns : goal.returns
 returns g c =
     let first = c.args.self.now.first in
     let second = c.args.self.now.second in
-    let few = at_most (g.A.Book.rules first) in
-    let less = at_most (g.B.Book.rules second) in
+    let few = at_most (g.met.A.Book.rules first) in
+    let less = at_most (g.met.B.Book.rules second) in
     let e = annexed_count (g.A.Book.entries first) (g.B.Book.entries second) in
     let s = c.saturating_add.ensures in
     let m = c.min.ensures in

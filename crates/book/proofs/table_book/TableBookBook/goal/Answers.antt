@@ -1,7 +1,7 @@
 use Rattle.std.proofs.Common.{sym, ap, ◌∙◌}
 use Rattle.book.specs.Answers.{goal_in}
 use Rattle.book.proofs.Lookups.{row_there, row_missing}
-use Rattle.book.proofs.table.Table.goal.Goals as goal
+use Rattle.book.proofs.table_book.TableBookBook.goal.Goals as goal
 
 pub returns-in_err-row : goal.returns-in_err-row
 returns-in_err-row g c =
@@ -13,5 +13,5 @@ pub returns : goal.returns
 returns g c =
     let t = c.args.self.now in
     let h = c.in_ok-row.ensures.lookup in
-    c.number_at.ensures
+    c.get-2.ensures
     ∙ sym (ap (λ o. goal_in o c.args.goal) (row_there t.cells.now t.rows.now c.args.entry c.in_ok-row.row.now h.3.0 h.1))

@@ -1,7 +1,7 @@
 use Rattle.std.proofs.Common.{sym, ap, ◌∙◌, arith}
 use Rattle.book.specs.Answers.{cell_in}
 use Rattle.book.proofs.Lookups.{own_cell, own_past, row_there, row_missing}
-use Rattle.book.proofs.table.Table.cell.Goals as goal
+use Rattle.book.proofs.table_book.TableBookBook.cell.Goals as goal
 
 pub returns-in_err-row : goal.returns-in_err-row
 returns-in_err-row g c =

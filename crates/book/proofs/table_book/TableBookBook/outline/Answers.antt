@@ -2,7 +2,7 @@ use Rattle.std.proofs.Common.{sym, ap}
 use Rattle.std.specs.Option.{option_map}
 use Rattle.book.specs.Answers.{outline_of}
 use Rattle.book.proofs.Lookups.{outline_there, row_missing}
-use Rattle.book.proofs.table.Table.outline.Goals as goal
+use Rattle.book.proofs.table_book.TableBookBook.outline.Goals as goal
 
 pub returns-in_err-row : goal.returns-in_err-row
 returns-in_err-row g c =
