@@ -1,27 +1,21 @@
 -- Reading back what was written: the form of a book means that book.
-use Rattle.std.proofs.Common.{◌≡◌, ℕ, zero, suc, ◌+◌, ◌*◌, ◌/◌, ◌%◌, ◌<◌, ◌≤◌, true, false, not, eqb, ltb, leb, List, [], ◌∷◌, ◌++◌, map, length, Some, None, Option, sym, refl, ap, ◌∙◌, subst, append_assoc, append-nil, arith}
-use Rattle.std.specs.List.{AllByRecursion, slice_get}
+use Rattle.std.proofs.Common.{◌≡◌, ℕ, suc, ◌+◌, ◌*◌, ◌/◌, ◌%◌, ◌<◌, ◌≤◌, true, false, not, eqb, ltb, leb, List, [], ◌∷◌, ◌++◌, map, length, Some, None, Option, sym, refl, ap, ◌∙◌, subst, append_assoc, append-nil, arith}
+use Rattle.std.specs.List.{AllByRecursion, slice_get, list_all}
 use Rattle.std.proofs.lemmas.List.{length_push}
-use Rattle.std.proofs.lemmas.Bool.{le-leb, lt-leb, lt-ltb, eq-eqb, and_from, not_from_true, cond-false}
+use Rattle.std.proofs.lemmas.Bool.{le-leb, lt-leb, eq-eqb, and_from, not_from_true, cond-false}
 use Rattle.leaf.specs.Bytes.{two_bytes}
 use Rattle.theory.specs.Entries.{Entry, Kind, clause, cofact, Part, variable, leaf, node, BodyRule, PartRules, PartsRules, IsNode, EntryRules, BookRules}
 use Rattle.form.specs.declared.fault.Cause.TheVariants.{WrongLength, WrongCell, TooMuch}
 use Rattle.form.specs.Fields.{Row}
 use Rattle.form.specs.Forms.{entry_tag, contents_form, book_form}
-use Rattle.form.specs.Meanings.{Test, shape, entry_kind, between, every, Seen, wrong, cell, goals, complete, entry, fault, row_fault, next_place, node_at, judged, leaf_seen, goals_end, on_seen, closed, on_found, seen, ending, ending_of, found, row_means, meaning}
-use Rattle.form.proofs.Bytewise.{all_every}
+use Rattle.form.specs.Meanings.{Test, shape, entry_kind, between, Seen, wrong, cell, goals, complete, entry, fault, row_fault, next_place, node_at, judged, leaf_seen, goals_end, on_seen, closed, on_found, seen, ending, ending_of, found, row_means, meaning}
+use Rattle.std.proofs.lemmas.Bool.Decides.{Decides-ltb}
+use Rattle.form.proofs.Bytewise.{all_decides}
 use Rattle.form.proofs.PartFields.{goals_cell, part_field, entry_fields, entry_field, cut_book, cut_entry}
+use Rattle.form.proofs.Sights.{node_decides}
 use Rattle.form.proofs.Steps.{meaning_short}
 
 module _ {V : Type 0} where
-  -- a cell that is a node passes the test of its number
-  is_node : (ps : List (Part V)) (n : ℕ) → IsNode (slice_get ps n) → node_at ps n ≡ true
-  is_node [] n h = absurd h
-  is_node (variable ∷ ps) zero h = absurd h
-  is_node (leaf v ∷ ps) zero h = absurd h
-  is_node (node f xs ∷ ps) zero h = refl
-  is_node (p ∷ ps) (suc n) h = is_node ps n h
-
   -- what fails no test is what it is
   judged_good : (ts : List Test) (s : Seen V) → AllByRecursion (λ t. t.fails ≡ false) ts → judged ts s ≡ s
   judged_good [] s a = refl
@@ -65,14 +59,14 @@ module _ {V : Type 0} (wide : ℕ) (written : V → List ℕ) (reading : List �
       judged_good
       (record { cause = WrongLength; fails = not (between 2 n 6) }
       ∷ record { cause = TooMuch; fails = leb 64 (length ps) }
-      ∷ record { cause = WrongCell; fails = not (every (λ a. ltb a (length ps)) args) } ∷ [])
+      ∷ record { cause = WrongCell; fails = not (list_all (λ a. ltb a (length ps)) args) } ∷ [])
       (cell (node (f / 256 * 256 + f % 256) args)) (
         not_from_true (between 2 n 6) (and_from (leb 2 n) (leb n 6) long short),
         (
           lt-leb 64 (length ps) few,
           (
-            not_from_true (every (λ a. ltb a (length ps)) args)
-                (all_every (λ a. ltb a (length ps)) (λ a. a < length ps) (λ a. lt-ltb a (length ps)) args r.2),
+            not_from_true (list_all (λ a. ltb a (length ps)) args)
+                ((all_decides (λ a. ltb a (length ps)) (λ a. a < length ps) (λ a. Decides-ltb a (length ps)) args).1 r.2),
             tt,
           ),
         ),
@@ -86,13 +80,13 @@ module _ {V : Type 0} (wide : ℕ) (written : V → List ℕ) (reading : List �
       let n = length (head ∷ body) in
       judged_good
       (record { cause = WrongLength; fails = not (between 1 n 9) }
-      ∷ record { cause = WrongCell; fails = not (every (node_at ps) (head ∷ body)) } ∷ [])
+      ∷ record { cause = WrongCell; fails = not (list_all (node_at ps) (head ∷ body)) } ∷ [])
       (goals head body) (
         not_from_true (between 1 n 9)
             (and_from (leb 1 n) (leb n 9) (le-leb 1 n (omega arith)) (le-leb n 9 (omega arith))),
         (
-          not_from_true (every (node_at ps) (head ∷ body))
-              (all_every (node_at ps) (λ b. IsNode (slice_get ps b)) (is_node ps) (head ∷ body) (h, hs)),
+          not_from_true (list_all (node_at ps) (head ∷ body))
+              ((all_decides (node_at ps) (λ b. IsNode (slice_get ps b)) (node_decides ps) (head ∷ body)).1 (h, hs)),
           tt,
         ),
       )

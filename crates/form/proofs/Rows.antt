@@ -1,11 +1,11 @@
 -- The row of fields that bytes are cut into: its fields hold bytes, and it is those bytes again.
 use Rattle.std.proofs.Common.{◌≡◌, ℕ, zero, suc, ◌+◌, ◌*◌, ◌/◌, ◌%◌, ◌<◌, ◌≤◌, Bool, true, false, cond, List, [], ◌∷◌, ◌++◌, length, take, drop, sym, refl, ap, ◌∙◌, append_assoc, arith}
 use Rattle.std.specs.List.{AllByRecursion, flat_map}
+use Rattle.std.proofs.ByRecursion.{All-drop, All-take}
 use Rattle.std.proofs.lemmas.List.{length-take-le, take-append-drop, drop-drop}
 use Rattle.std.proofs.lemmas.Bool.{leb-true}
 use Rattle.leaf.specs.Bytes.{Bytes, two_bytes}
 use Rattle.form.specs.Fields.{Field, Row, field_form, size, whole, first_field, after_field, put, cut_most, cut}
-use Rattle.form.proofs.Bytewise.{bytes_take, bytes_drop}
 use Rattle.form.proofs.Cuts.{cut_form}
 use Rattle.form.proofs.Steps.{cut_nil}
 
@@ -30,14 +30,14 @@ Short f = length f.contents < 65536
 
 most_bytes : (n : ℕ) (bs : List ℕ) → Bytes bs → AllByRecursion HoldsBytes (cut_most n bs).fields
 most_bytes zero bs b = tt
-most_bytes (suc n) bs b = go (whole bs) (most_bytes n (after_field bs) (bytes_drop (3 + size bs) bs b))
+most_bytes (suc n) bs b = go (whole bs) (most_bytes n (after_field bs) (All-drop (λ b. b < 256) (3 + size bs) bs b))
   where
     rest : Row
     rest = cut_most n (after_field bs)
 
     go : (w : Bool) → AllByRecursion HoldsBytes rest.fields →
         AllByRecursion HoldsBytes (cond w (put (first_field bs) rest) (record { fields = []; left = bs })).fields
-    go true h = (bytes_take (size bs) (drop 3 bs) (bytes_drop 3 bs b), h)
+    go true h = (All-take (λ b. b < 256) (size bs) (drop 3 bs) (All-drop (λ b. b < 256) 3 bs b), h)
     go false h = tt
 
 -- the fields of bytes hold bytes
@@ -65,7 +65,7 @@ field_back (t ∷ h ∷ l ∷ rest) b e =
 most_back : (n : ℕ) (bs : List ℕ) → Bytes bs →
     flat_map field_bytes (cut_most n bs).fields ++ (cut_most n bs).left ≡ bs
 most_back zero bs b = refl
-most_back (suc n) bs b = go (whole bs) refl (most_back n (after_field bs) (bytes_drop (3 + size bs) bs b))
+most_back (suc n) bs b = go (whole bs) refl (most_back n (after_field bs) (All-drop (λ b. b < 256) (3 + size bs) bs b))
   where
     rest : Row
     rest = cut_most n (after_field bs)

@@ -1,24 +1,25 @@
 -- What a field of an entry is taken for: a cell that keeps the rules, or goals that name nodes.
-use Rattle.std.proofs.Common.{◌≡◌, ℕ, zero, suc, ◌+◌, ◌*◌, ◌<◌, ◌≤◌, true, false, cond, not, eqb, ltb, leb, List, [], ◌∷◌, ◌++◌, length, Some, None, Option, sym, refl, ap, arith}
-use Rattle.std.specs.List.{AllByRecursion, slice_get}
+use Rattle.std.proofs.Common.{◌≡◌, ℕ, zero, suc, ◌+◌, ◌*◌, ◌<◌, ◌≤◌, false, cond, not, eqb, ltb, leb, List, [], ◌∷◌, ◌++◌, length, Some, None, Decides, Option, sym, refl, ap, arith}
+use Rattle.std.specs.List.{AllByRecursion, slice_get, list_all}
 use Rattle.std.proofs.lemmas.List.{nil_from_length}
-use Rattle.std.proofs.lemmas.Bool.{false≢true, not-false, leb-true, leb-false, ltb-true, eqb-true, and_parts, cond_both}
+use Rattle.std.proofs.lemmas.Bool.{false≢true, not-false, leb-true, leb-false, eqb-true, and_parts, cond_both}
 use Rattle.leaf.specs.Bytes.{Bytes, two_bytes}
 use Rattle.theory.specs.Entries.{Part, variable, leaf, node, PartRules, IsNode}
 use Rattle.form.specs.declared.fault.Cause.{Cause}
 use Rattle.form.specs.declared.fault.Cause.TheVariants.{WrongLength, WrongCell, TooMuch}
-use Rattle.form.specs.Meanings.{Test, Shape, variable_field, leaf_field, node_field, goals_field, shape, between, every, Seen, wrong, cell, goals, node_at, judged, leaf_seen, seen}
-use Rattle.form.proofs.Bytewise.{every_all}
+use Rattle.form.specs.Meanings.{Test, Shape, variable_field, leaf_field, node_field, goals_field, shape, between, Seen, wrong, cell, goals, node_at, judged, leaf_seen, seen}
+use Rattle.std.proofs.lemmas.Bool.Decides.{Decides-ltb}
+use Rattle.form.proofs.Bytewise.{all_decides}
 use Rattle.form.proofs.Rows.{two_bytes_back}
 
 module _ {V : Type 0} where
-  -- the test of a cell's number tells that the cell is a node
-  pub node_is : (ps : List (Part V)) (n : ℕ) → node_at ps n ≡ true → IsNode (slice_get ps n)
-  node_is [] n e = absurd (false≢true e)
-  node_is (variable ∷ ps) zero e = absurd (false≢true e)
-  node_is (leaf v ∷ ps) zero e = absurd (false≢true e)
-  node_is (node f xs ∷ ps) zero e = tt
-  node_is (p ∷ ps) (suc n) e = node_is ps n e
+  -- the test of a cell's number decides whether the cell is a node
+  pub node_decides : (ps : List (Part V)) (n : ℕ) → Decides (node_at ps n) (IsNode (slice_get ps n))
+  node_decides [] n = (λ e. absurd (false≢true e), λ h. absurd h)
+  node_decides (variable ∷ ps) zero = (λ e. absurd (false≢true e), λ h. absurd h)
+  node_decides (leaf v ∷ ps) zero = (λ e. absurd (false≢true e), λ h. absurd h)
+  node_decides (node f xs ∷ ps) zero = (λ e. tt, λ h. refl)
+  node_decides (p ∷ ps) (suc n) = node_decides ps n
 
   -- what holds of every fault, and of what passes all the tests, holds of what is judged
   judged_all : (P : Seen V → Type 0) → ((c : Cause) → P (wrong c)) → (ts : List Test) (s : Seen V) →
@@ -74,7 +75,7 @@ module _ {V : Type 0} (wide : ℕ) (reading : List ℕ → Option V) where
         judged_all (Good ps tag (h ∷ l ∷ args)) (λ c. tt)
         (record { cause = WrongLength; fails = not (between 2 (length (h ∷ l ∷ args)) 6) }
         ∷ record { cause = TooMuch; fails = leb 64 (length ps) }
-        ∷ record { cause = WrongCell; fails = not (every (λ a. ltb a (length ps)) args) } ∷ [])
+        ∷ record { cause = WrongCell; fails = not (list_all (λ a. ltb a (length ps)) args) } ∷ [])
         (cell (node (h * 256 + l) args))
         (λ a.
         let n = length (h ∷ l ∷ args) in
@@ -85,8 +86,8 @@ module _ {V : Type 0} (wide : ℕ) (reading : List ℕ → Option V) where
           (
             omega arith,
             omega arith,
-            every_all (λ x. ltb x (length ps)) (λ x. x < length ps) (λ x. ltb-true x (length ps)) args
-                (not-false (every (λ x. ltb x (length ps)) args) a.1.1.0),
+            (all_decides (λ x. ltb x (length ps)) (λ x. x < length ps) (λ x. Decides-ltb x (length ps)) args).0
+                (not-false (list_all (λ x. ltb x (length ps)) args) a.1.1.0),
           ),
           (t, ap (λ xs. xs ++ args) (sym (two_bytes_back h l low))),
         ))
@@ -96,14 +97,14 @@ module _ {V : Type 0} (wide : ℕ) (reading : List ℕ → Option V) where
     goals_good (head ∷ body) t =
         judged_all (Good ps tag (head ∷ body)) (λ c. tt)
         (record { cause = WrongLength; fails = not (between 1 (length (head ∷ body)) 9) }
-        ∷ record { cause = WrongCell; fails = not (every (node_at ps) (head ∷ body)) } ∷ [])
+        ∷ record { cause = WrongCell; fails = not (list_all (node_at ps) (head ∷ body)) } ∷ [])
         (goals head body)
         (λ a.
         let n = length (head ∷ body) in
         let few : n ≤ 9 = leb-true n 9 (and_parts (leb 1 n) (leb n 9) (not-false (between 1 n 9) a.0)).1 in
         let nodes : AllByRecursion (λ b. IsNode (slice_get ps b)) (head ∷ body) =
-        every_all (node_at ps) (λ b. IsNode (slice_get ps b)) (node_is ps) (head ∷ body)
-        (not-false (every (node_at ps) (head ∷ body)) a.1.0) in
+        (all_decides (node_at ps) (λ b. IsNode (slice_get ps b)) (node_decides ps) (head ∷ body)).0
+        (not-false (list_all (node_at ps) (head ∷ body)) a.1.0) in
         (nodes.0, nodes.1, omega arith, t, refl))
 
     -- whatever bytes a field holds, what it is taken for is good

@@ -3,3 +3,4 @@ pub mod Forms
 pub mod Meanings
 pub mod Numbers
 pub mod Samples
+pub mod Words

@@ -1,6 +1,6 @@
 -- What bytes mean as a book: the entries before the first fault, and that fault. Assumes nothing.
 use Rattle.std.specs.Prelude.{ℕ, suc, ◌+◌, ◌*◌, Bool, true, false, cond, not, ◌&&◌, ltb, List, [], ◌∷◌, ◌++◌, length, drop, Some, None, Option, ◌==◌, nat_le, nat_lt, slice_index}
-use Rattle.std.specs.List.{slice_get}
+use Rattle.std.specs.List.{slice_get, list_all}
 use Rattle.theory.specs.Entries.{Entry, Kind, clause, cofact, Part, variable, leaf, node}
 use Rattle.form.specs.declared.fault.Cause.{Cause}
 use Rattle.form.specs.declared.fault.Cause.TheVariants.{PastEnd, WrongTag, WrongLength, WrongCell, WrongLeaf, WrongGoals, TooMuch}
@@ -31,11 +31,6 @@ entry_kind tag = cond (tag == 1) (Some clause) (cond (tag == 2) (Some cofact) No
 -- the number lies between the two, or is one of them
 abbrev pub between : ℕ → ℕ → ℕ → Bool
 between low n high = nat_le low n && nat_le n high
-
--- every number of the list passes the test
-abbrev pub every : (ℕ → Bool) → List ℕ → Bool
-every test [] = true
-every test (n ∷ ns) = test n && every test ns
 
 -- what a field of an entry is: a fault, a cell, or the goals with head and body
 pub data Seen (V : Type 0) : Type 0 where
@@ -138,11 +133,11 @@ module _ {V : Type 0} (wide : ℕ) (reading : List ℕ → Option V) where
   seen ps bs (Some node_field) =
       judged
       (record { cause = WrongLength; fails = not (between 2 (length bs) 6) } ∷ record { cause = TooMuch; fails = nat_le 64 (length ps) }
-      ∷ record { cause = WrongCell; fails = not (every (λ a. ltb a (length ps)) (drop 2 bs)) } ∷ [])
+      ∷ record { cause = WrongCell; fails = not (list_all (λ a. ltb a (length ps)) (drop 2 bs)) } ∷ [])
       (cell (node (slice_index bs 0 * 256 + slice_index bs 1) (drop 2 bs)))
   seen ps bs (Some goals_field) =
       judged
-      (record { cause = WrongLength; fails = not (between 1 (length bs) 9) } ∷ record { cause = WrongCell; fails = not (every (node_at ps) bs) } ∷ [])
+      (record { cause = WrongLength; fails = not (between 1 (length bs) 9) } ∷ record { cause = WrongCell; fails = not (list_all (node_at ps) bs) } ∷ [])
       (goals (slice_index bs 0) (drop 1 bs))
 
   -- the fields of an entry from a place on, after the cells ps

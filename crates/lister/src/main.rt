@@ -16,15 +16,11 @@ fn fill(input: &mut impl Read, buffer: &mut [u8]) -> io::Result<usize>
     ensures { IfOk result (λ n. n ≤ length buffer.old) }
 {
     let mut count = 0;
-    for _ in 0..buffer.len() {
-        if count >= buffer.len() {
-            break;
+    while count < buffer.len() {
+        match input.read(&mut buffer[count..])? {
+            0 => break,
+            more => count += more,
         }
-        let more = input.read(&mut buffer[count..])?;
-        if more == 0 {
-            break;
-        }
-        count += more;
     }
     Ok(count)
 }
@@ -33,6 +29,7 @@ fn run(rt: &HostRuntime) -> anyhow::Result<()> {
     // one byte more than a book may have, so that a longer book is noticed
     let mut input = [0; 65536];
     let count = fill(&mut rt.stdin(), &mut input)?;
+    // a listing is refused if it is longer
     let mut output = [0; 65536];
     match list::<AccessionNumber>(rt.alloc(), &input[0..count], &mut output) {
         Ok(length) => rt.stdout().write_all(&output[0..length])?,

@@ -14,7 +14,7 @@ use wire::inspect::inspect;
 use wire::lines::last_text;
 use wire::writer::write;
 
-// The value of a hexadecimal digit.
+// The value of a hexadecimal digit. The library's decoders take capital letters too, which are no digits here.
 fn digit(byte: u8) -> anyhow::Result<u8> {
     match byte {
         b'0'..=b'9' => Ok(byte - b'0'),
@@ -58,14 +58,12 @@ fn writes_back<L: WireLeaf>(
 ) -> anyhow::Result<bool> {
     let mut out = vec![in heap; 0; bytes.len()]?;
     let whole = book.fault().is_none();
-    match write::<L, ByteBook<L>>(book, &mut out) {
-        Ok(count) => Ok(
-            count <= bytes.len()
-                && out.as_slice().starts_with(&bytes[0..count])
-                && (!whole || count == bytes.len()),
-        ),
-        Err(_) => Ok(false),
-    }
+    let written = write::<L, ByteBook<L>>(book, &mut out);
+    Ok(written.is_ok_and(|count| {
+        count <= bytes.len()
+            && out.as_slice().starts_with(&bytes[0..count])
+            && (!whole || count == bytes.len())
+    }))
 }
 
 // Lists one book, and holds what `inspect` says and what the writer writes against it.
@@ -86,19 +84,18 @@ fn trial<L: WireLeaf>(rt: &HostRuntime, number: usize, bytes: &[u8]) -> anyhow::
 
 fn run(rt: &HostRuntime) -> anyhow::Result<()> {
     let text = io::read_to_string(rt.alloc(), rt.stdin())?;
-    let mut count = 0usize;
-    for line in text.lines() {
-        let Some((kind, words)) = line.split_once(' ') else {
-            return Err(anyhow!("a line without a leaf kind"));
-        };
+    for (number, line) in text.lines().enumerate() {
+        let (kind, words) = line
+            .split_once(' ')
+            .ok_or_else(|| anyhow!("a line without a leaf kind"))?;
         let bytes = expand(rt.alloc(), words)?;
         match kind {
-            "number" => trial::<AccessionNumber>(rt, count, &bytes)?,
-            "mark" => trial::<ShelfMark>(rt, count, &bytes)?,
+            "number" => trial::<AccessionNumber>(rt, number, &bytes)?,
+            "mark" => trial::<ShelfMark>(rt, number, &bytes)?,
             _ => return Err(anyhow!("no such leaf kind")),
         }
-        count = count.saturating_add(1);
     }
+    let count = text.lines().count();
     println!(rt; "books {count}")?;
     Ok(())
 }

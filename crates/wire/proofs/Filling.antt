@@ -1,8 +1,8 @@
 -- Outputs that are filled piece by piece, and lists that are written element by element.
-use Rattle.std.proofs.Common.{◌≡◌, ℕ, zero, suc, ◌+◌, ◌-◌, ◌<◌, ◌≤◌, List, [], ◌∷◌, ◌++◌, length, take, drop, set, Some, sym, refl, ap, ◌∙◌, append_assoc, append-nil, add-one, arith}
+use Rattle.std.proofs.Common.{◌≡◌, ℕ, zero, suc, ◌+◌, ◌-◌, ◌≤◌, List, [], ◌∷◌, ◌++◌, length, take, drop, Some, sym, refl, ap, ◌∙◌, append_assoc, append-nil, add-one, arith}
 use borrow.Rule.Slice.PartMut.{put_mid}
 use Rattle.std.specs.List.{slice_get, flat_map}
-use Rattle.std.proofs.lemmas.List.{drop_all, drop_at, drop-drop, length-append, length-drop, set_split, take_all, take_at, take_rest}
+use Rattle.std.proofs.lemmas.List.{drop_all, drop_at, drop-drop, length-append, length-drop, take_all, take_at, take_rest}
 use Rattle.leaf.specs.Bytes.{two_bytes}
 use Rattle.leaf.specs.Outputs.{Fills}
 use Rattle.form.specs.Fields.{field_form}
@@ -32,28 +32,6 @@ fills_then before mid t u part ys n m k f h e l =
           ∙ sym (append_assoc t u (drop (n + length u) before)) ∙ ap (λ i. (t ++ u) ++ drop i before) (sym size);
     }
 
--- a text, and then one byte more
-pub fills_push : (before mid t : List ℕ) (n b : ℕ) → Fills before mid t n → n < length before →
-    Fills before (set mid n b) (t ++ b ∷ []) (n + 1)
-fills_push before mid t n b f l =
-    let a : length t ≡ n = sym f.count in
-    let long : length mid ≡ length before =
-    ap length f.output ∙ omega (arith, length-append t (drop (length t) before), length-drop (length t) before, f.fits) in
-    let front : take n mid ≡ t = ap (take n) f.output ∙ take_at t (drop (length t) before) n a in
-    let size : length (t ++ b ∷ []) ≡ suc n = length-append t (b ∷ []) ∙ omega arith in
-    let one : suc n ≡ n + 1 = omega arith in
-    let rest : drop (suc n) mid ≡ drop (suc n) before =
-    ap (λ i. drop i mid) one ∙ sym (drop-drop 1 n mid)
-    ∙ ap (drop 1) (ap (drop n) f.output ∙ drop_at t (drop (length t) before) n a ∙ ap (λ i. drop i before) a)
-    ∙ drop-drop 1 n before ∙ ap (λ i. drop i before) (sym one) in
-    record {
-      fits = omega arith;
-      count = omega arith;
-      output =
-          set_split mid n b (omega arith) ∙ ap (λ p. p ++ b ∷ drop (suc n) mid) front ∙ ap (λ p. t ++ b ∷ p) rest
-          ∙ sym (append_assoc t (b ∷ []) (drop (suc n) before)) ∙ ap (λ i. (t ++ b ∷ []) ++ drop i before) (sym size);
-    }
-
 -- the same text and the same number
 pub fills_same : {before after t t' : List ℕ} {n n' : ℕ} → t ≡ t' → n ≡ n' → Fills before after t n → Fills before after t' n'
 fills_same {before} {after} {t} {t'} {n} {n'} e d f =
@@ -69,13 +47,19 @@ pub fills_rest : {before mid t u ys : List ℕ} {n m : ℕ} → Fills before mid
 fills_rest {before} {mid} {t} {u} {ys} {n} {m} f h =
     fills_then before mid t u (take (length mid - n) (drop n mid)) ys n m (length mid - n) f h (take_rest mid n) (omega arith)
 
+-- a text does not change how long the output is
+pub fills_long : {before mid t : List ℕ} {n : ℕ} → Fills before mid t n → length mid ≡ length before
+fills_long {before} {mid} {t} {n} f =
+    ap length f.output ∙ omega (arith, length-append t (drop (length t) before), length-drop (length t) before, f.fits)
+
+-- how long what lies behind some bytes is
+pub part_long : (mid : List ℕ) (n k : ℕ) → n + k ≤ length mid → k ≤ length (take (length mid - n) (drop n mid))
+part_long mid n k h = omega (arith, ap length (take_rest mid n), length-drop n mid)
+
 -- how long what lies behind a text is
 pub rest_long : {before mid t : List ℕ} {n : ℕ} (k : ℕ) → Fills before mid t n → n + k ≤ length before →
     k ≤ length (take (length mid - n) (drop n mid))
-rest_long {before} {mid} {t} {n} k f h =
-    let long : length mid ≡ length before =
-    ap length f.output ∙ omega (arith, length-append t (drop (length t) before), length-drop (length t) before, f.fits) in
-    omega (arith, ap length (take_rest mid n), length-drop n mid, long)
+rest_long {before} {mid} {t} {n} k f h = part_long mid n k (omega (arith, fills_long f, h))
 
 -- a field: its first three bytes, and then what it holds
 pub fills_field : {before mid ys : List ℕ} {n m size : ℕ} (tag : ℕ) (contents : List ℕ) → Fills before mid (tag ∷ two_bytes size) n →

@@ -1,11 +1,12 @@
 -- What a field is seen as, kind by kind, from the outcome of its tests.
 use Rattle.std.proofs.Common.{◌≡◌, ℕ, ◌+◌, ◌*◌, ◌<◌, ◌≤◌, Bool, true, false, cond, not, eqb, ltb, leb, List, length, get_or, drop, Some, None, Option, sym, ap, ◌∙◌, ⊎_elim, arith}
+use Rattle.std.specs.List.{list_all}
 use Rattle.std.proofs.lemmas.Bool.{cases_lt, eq-eqb, le-leb, lt-leb}
 use Rattle.std.proofs.lemmas.Bool.Decides.{nat_tests}
 use Rattle.theory.specs.Entries.{Part, variable, node}
 use Rattle.form.specs.declared.fault.Cause.{Cause}
 use Rattle.form.specs.declared.fault.Cause.TheVariants.{TooMuch, WrongCell, WrongLength}
-use Rattle.form.specs.Meanings.{Seen, Shape, between, cell, every, goals, leaf_seen, node_at, seen, wrong, variable_field, leaf_field, node_field, goals_field}
+use Rattle.form.specs.Meanings.{Seen, Shape, between, cell, goals, leaf_seen, node_at, seen, wrong, variable_field, leaf_field, node_field, goals_field}
 
 has_length : (n m : ℕ) → n ≡ m → not (eqb n m) ≡ false
 has_length n m e = ap not (eq-eqb n m e)
@@ -30,21 +31,21 @@ module _ {V : Type 0} (wide : ℕ) (reading : List ℕ → Option V) (ps : List 
   pub node_full : 2 ≤ length bs → length bs ≤ 6 → 64 ≤ length ps → seen wide reading ps bs (Some node_field) ≡ wrong TooMuch
   node_full l u h = rw (lies_between 2 (length bs) 6 l u, le-leb 64 (length ps) h)
 
-  pub node_wrong : 2 ≤ length bs → length bs ≤ 6 → length ps < 64 → every (λ a. ltb a (length ps)) (drop 2 bs) ≡ false →
+  pub node_wrong : 2 ≤ length bs → length bs ≤ 6 → length ps < 64 → list_all (λ a. ltb a (length ps)) (drop 2 bs) ≡ false →
       seen wide reading ps bs (Some node_field) ≡ wrong WrongCell
   node_wrong l u h e =
       rw (lies_between 2 (length bs) 6 l u, lt-leb 64 (length ps) h, ap not e)
 
-  pub node_seen : 2 ≤ length bs → length bs ≤ 6 → length ps < 64 → every (λ a. ltb a (length ps)) (drop 2 bs) ≡ true →
+  pub node_seen : 2 ≤ length bs → length bs ≤ 6 → length ps < 64 → list_all (λ a. ltb a (length ps)) (drop 2 bs) ≡ true →
       seen wide reading ps bs (Some node_field) ≡ cell (node (get_or bs 0 0 * 256 + get_or bs 1 0) (drop 2 bs))
   node_seen l u h e =
       rw (lies_between 2 (length bs) 6 l u, lt-leb 64 (length ps) h, ap not e)
 
-  pub goals_wrong : 1 ≤ length bs → length bs ≤ 9 → every (node_at ps) bs ≡ false →
+  pub goals_wrong : 1 ≤ length bs → length bs ≤ 9 → list_all (node_at ps) bs ≡ false →
       seen wide reading ps bs (Some goals_field) ≡ wrong WrongCell
   goals_wrong l u e = rw (lies_between 1 (length bs) 9 l u, ap not e)
 
-  pub goals_seen : 1 ≤ length bs → length bs ≤ 9 → every (node_at ps) bs ≡ true →
+  pub goals_seen : 1 ≤ length bs → length bs ≤ 9 → list_all (node_at ps) bs ≡ true →
       seen wide reading ps bs (Some goals_field) ≡ goals (get_or bs 0 0) (drop 1 bs)
   goals_seen l u e = rw (lies_between 1 (length bs) 9 l u, ap not e)
 
@@ -68,4 +69,4 @@ module _ {V : Type 0} (wide : ℕ) (reading : List ℕ → Option V) (ps : List 
       full (Some variable_field) f t = short (not (eqb (length bs) 0)) (leb 64 (length ps)) (cell variable) WrongLength TooMuch t f
       full (Some leaf_field) f t = short (not (eqb (length bs) wide)) (leb 64 (length ps)) (leaf_seen (reading bs)) WrongLength TooMuch t f
       full (Some node_field) f t = short (not (between 2 (length bs) 6)) (leb 64 (length ps)) _ WrongLength TooMuch t f
-      full (Some goals_field) f t = never (not (between 1 (length bs) 9)) (not (every (node_at ps) bs)) WrongLength WrongCell (get_or bs 0 0) (drop 1 bs) f
+      full (Some goals_field) f t = never (not (between 1 (length bs) 9)) (not (list_all (node_at ps) bs)) WrongLength WrongCell (get_or bs 0 0) (drop 1 bs) f

@@ -1,4 +1,5 @@
 pub mod Listings
 pub mod Marks
 pub mod Reads
+pub mod Tags
 pub mod Writes

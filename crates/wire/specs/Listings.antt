@@ -1,24 +1,12 @@
 -- The listing of a book: a line for each entry, and a last line. Assumes nothing.
 use Rattle.std.specs.Prelude.{◌≡◌, ℕ, suc, List, [], ◌∷◌, ◌++◌, length, Some, None, Ok, Err, codes, decimal, Option, Result}
 use Rattle.leaf.specs.Outputs.{Fills, Short}
-use Rattle.theory.specs.Entries.{Entry, Kind, clause, cofact}
+use Rattle.theory.specs.Entries.{Entry, Kind}
+use Rattle.book.specs.Answers.{kind_word}
 use Rattle.form.specs.declared.fault.Fault.{Fault}
-use Rattle.form.specs.declared.fault.Layer.{Layer}
-use Rattle.form.specs.declared.fault.Layer.TheVariants as layers
-use Rattle.form.specs.Numbers.{cause_number}
+use Rattle.form.specs.Words.{fault_words}
 use Rattle.wire.specs.declared.list_refusal.ListRefusal.{ListRefusal}
 use Rattle.wire.specs.declared.list_refusal.ListRefusal.TheVariants.{ShortOutput, NoMemory}
-
--- the word for a kind of entry
-abbrev pub kind_word : Kind → List ℕ
-kind_word clause = codes "clause"
-kind_word cofact = codes "cofact"
-
--- the word for a layer
-abbrev pub layer_word : Layer → List ℕ
-layer_word layers.Book = codes "book"
-layer_word layers.Entry = codes "entry"
-layer_word layers.Leaf = codes "leaf"
 
 -- a line: a number, a kind, and the counts of cells and of body goals, ended by byte 10
 abbrev pub line_of : ℕ → Kind → ℕ → ℕ → List ℕ
@@ -38,9 +26,7 @@ module _ {V : Type 0} where
 -- the last line: the number of entries, or the fault that ends them
 abbrev pub last_line : ℕ → Option Fault → List ℕ
 last_line n None = codes "entries " ++ (decimal n ++ codes "\n")
-last_line n (Some f) =
-    codes "fault " ++ (decimal (cause_number f.cause) ++ (codes " place " ++ (decimal f.place ++ (codes " entry "
-    ++ (decimal f.entry ++ (codes " layer " ++ (layer_word f.layer ++ codes "\n")))))))
+last_line n (Some f) = fault_words f ++ codes "\n"
 
 -- the whole listing
 unfoldable pub listing_of : {V : Type 0} → List (Entry V) → Option Fault → List ℕ

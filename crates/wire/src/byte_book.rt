@@ -1,39 +1,31 @@
 ghost use Rattle.std.specs.Prelude.{◌≡◌, IfOk};
 ghost use Rattle.theory.specs.Entries.{BookRules};
-ghost use Rattle.book.specs.Tables.{row_entries, table_entries};
+ghost use Rattle.book.specs.Tables.{row_entries};
 ghost use Rattle.form.specs.Meanings.{meaning};
 
-use crate::faults::in_row;
-use crate::inspect::MOST_BYTES;
-use crate::load::load;
+use crate::store::Store;
 use book::entry::{EntryCell, Outline};
 use book::interface::Book;
-use book::table::{Row, Table};
-use form::fault::{Cause, Fault};
+use book::table_book::TableBook;
+use form::fault::Fault;
 use leaf::kind::{Leaf, WireLeaf};
 use std::alloc::{AllocError, Global};
 
 // A book read from bytes: the entries before their first fault. The bytes are read once, when it is opened.
 #[derive(Drop)]
 pub struct ByteBook<L> {
-    rows: Vec<Row>,
-    cells: Vec<EntryCell<L>>,
+    store: Store<L>,
     fault: Option<Fault>,
-    ghost keeps: { ∥ BookRules (row_entries cells.items rows.items) ∥₁ },
+    ghost keeps: { ∥ BookRules (row_entries store.cells.items store.rows.items) ∥₁ },
 }
 
 impl<L: WireLeaf> ByteBook<L> {
     pub fn open(heap: Global, bytes: &[u8]) -> Result<ByteBook<L>, AllocError>
-        ensures { IfOk result (λ b. (row_entries b.cells.items b.rows.items ≡ (meaning L.WireLeaf.wide L.WireLeaf.reading bytes.now).entries) × (b.fault ≡ (meaning L.WireLeaf.wide L.WireLeaf.reading bytes.now).first_fault)) }
+        ensures { IfOk result (λ b. (row_entries b.store.cells.items b.store.rows.items ≡ (meaning L.WireLeaf.wide L.WireLeaf.reading bytes.now).entries) × (b.fault ≡ (meaning L.WireLeaf.wide L.WireLeaf.reading bytes.now).first_fault)) }
     {
-        let mut rows = Vec::new(heap);
-        let mut cells = Vec::new(heap);
-        if bytes.len() > MOST_BYTES {
-            let fault = Some(in_row(Cause::TooMuch, 0, 0));
-            return Ok(ByteBook { rows, cells, fault });
-        }
-        let fault = load::<L>(bytes, &mut rows, &mut cells)?;
-        Ok(ByteBook { rows, cells, fault })
+        let mut store = Store::new(heap);
+        let fault = store.load(bytes)?;
+        Ok(ByteBook { store, fault })
     }
 }
 
@@ -45,19 +37,20 @@ impl<L: Leaf> ByteBook<L> {
         self.fault
     }
 
-    // The table that holds the entries.
-    fn table(&self) -> Table<'_, L>
-        ensures { table_entries result ≡ row_entries self.now.cells.items self.now.rows.items }
+    // The entries as a book that stands on a table.
+    fn table(&self) -> TableBook<'_, L>
+        ensures { row_entries result.cells.now result.rows.now ≡ row_entries self.now.store.cells.items self.now.store.rows.items }
     {
-        Table {
-            rows: self.rows.as_slice(),
-            cells: self.cells.as_slice(),
+        TableBook {
+            rows: self.store.rows.as_slice(),
+            cells: self.store.cells.as_slice(),
         }
     }
 }
 
+// The table answers; passing the four questions on is no longer than a trait for what holds a table would be.
 impl<L: Leaf> Book<L> for ByteBook<L> {
-    ghost entries = { λ b. row_entries b.cells.items b.rows.items };
+    ghost entries = { λ b. row_entries b.store.cells.items b.store.rows.items };
 
     ghost rules = { λ b. b.keeps };
 

@@ -1,20 +1,22 @@
-// A field of an entry, with the place of its tag in the book. Its contents are borrowed from the book's bytes.
+use crate::spot::Spot;
+
+// A field of an entry, with where its tag stands in the book. Its contents are borrowed from the book's bytes.
 #[derive(Clone, Copy)]
 pub enum Field<'a> {
     Variable {
-        place: usize,
+        spot: Spot,
     },
     Leaf {
-        place: usize,
+        spot: Spot,
         bytes: &'a [u8],
     },
     Node {
-        place: usize,
+        spot: Spot,
         symbol: u16,
         args: &'a [u8],
     },
     Goals {
-        place: usize,
+        spot: Spot,
         head: u8,
         body: &'a [u8],
     },

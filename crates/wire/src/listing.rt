@@ -22,10 +22,9 @@ pub fn list_text<L: Leaf, B: Book<L>>(
 {
     let mut text = String::new(heap);
     let count = book.len();
+    // a book is asked for its entries by number
     for number in 0..count {
-        let Some(outline) = book.outline(number) else {
-            unreachable()
-        };
+        let outline = book.outline(number).unwrap();
         let line = entry_text(heap, number, &outline)?;
         text.push_str(line.as_str())?;
     }
@@ -47,11 +46,6 @@ fn bytes_text<L: WireLeaf>(heap: Global, bytes: &[u8]) -> Result<String, AllocEr
 pub fn list<L: WireLeaf>(heap: Global, bytes: &[u8], out: &mut [u8]) -> Result<usize, ListRefusal>
     ensures { ListMeans (listing_of (meaning L.WireLeaf.wide L.WireLeaf.reading bytes.now).entries (meaning L.WireLeaf.wide L.WireLeaf.reading bytes.now).first_fault) out.old out.new result }
 {
-    let Ok(text) = bytes_text::<L>(heap, bytes) else {
-        return Err(ListRefusal::NoMemory);
-    };
-    match put(out, text.as_bytes()) {
-        Ok(count) => Ok(count),
-        Err(_) => Err(ListRefusal::ShortOutput),
-    }
+    let text = bytes_text::<L>(heap, bytes)?;
+    Ok(put(out, text.as_bytes())?)
 }

@@ -5,30 +5,29 @@ ghost use Rattle.leaf.specs.Outputs.{Fills};
 ghost use Rattle.theory.specs.Entries.{leaf, node};
 ghost use Rattle.book.specs.Answers.{part_of};
 ghost use Rattle.form.specs.Forms.{part_form};
+ghost use Rattle.wire.specs.Tags.{tag_number};
 ghost use Rattle.wire.specs.Writes.{arguments};
 
+use crate::tag::Tag;
 use book::entry::EntryCell;
-use book::rules::numbers;
 use leaf::kind::WireLeaf;
+use leaf::output::put;
 
 // Writes the bytes and says how many they are.
 pub(crate) fn put_bytes(bytes: &[u8], out: &mut [u8]) -> usize
     requires { length bytes.now ≤ length out.old }
     ensures { Fills out.old out.new bytes.now result }
 {
-    let count = bytes.len();
-    out[0..count].copy_from_slice(bytes);
-    count
+    put(out, bytes).unwrap()
 }
 
 // Writes what a field begins with: its tag, and how many bytes it holds.
-pub(crate) fn put_header(tag: u8, size: usize, out: &mut [u8]) -> usize
+pub(crate) fn put_header(tag: Tag, size: usize, out: &mut [u8]) -> usize
     requires { (size < 65536) × (3 ≤ length out.old) }
-    ensures { Fills out.old out.new (tag ∷ two_bytes size) result }
+    ensures { Fills out.old out.new (tag_number tag ∷ two_bytes size) result }
 {
-    let high = (size / 256) as u8;
-    let low = (size % 256) as u8;
-    put_bytes(&[tag, high, low], out)
+    let [high, low] = (size as u16).to_be_bytes();
+    put_bytes(&[u8::from(tag), high, low], out)
 }
 
 // Writes a leaf's field.
@@ -36,11 +35,8 @@ fn put_leaf<L: WireLeaf>(value: &L, out: &mut [u8]) -> usize
     requires { length (part_form L.WireLeaf.written (leaf value.now)) ≤ length out.old }
     ensures { Fills out.old out.new (part_form L.WireLeaf.written (leaf value.now)) result }
 {
-    let at = put_header(17, L::width(), out);
-    match value.write(&mut out[at..]) {
-        Ok(count) => at + count,
-        Err(_) => at,
-    }
+    let at = put_header(Tag::Leaf, L::width(), out);
+    at + value.write(&mut out[at..]).unwrap()
 }
 
 // Writes a node's field.
@@ -48,10 +44,8 @@ fn put_node<L: WireLeaf>(symbol: u16, args: &[u8], out: &mut [u8]) -> usize
     requires { (length args.now ≤ 4) × (length (part_form L.WireLeaf.written (node symbol args.now)) ≤ length out.old) }
     ensures { Fills out.old out.new (part_form L.WireLeaf.written (node symbol args.now)) result }
 {
-    let high = (symbol / 256) as u8;
-    let low = (symbol % 256) as u8;
-    let start = put_header(18, 2 + args.len(), out);
-    let at = start + put_bytes(&[high, low], &mut out[start..]);
+    let start = put_header(Tag::Node, 2 + args.len(), out);
+    let at = start + put_bytes(&symbol.to_be_bytes(), &mut out[start..]);
     at + put_bytes(args, &mut out[at..])
 }
 
@@ -61,11 +55,8 @@ pub(crate) fn put_cell<L: WireLeaf>(cell: &EntryCell<L>, out: &mut [u8]) -> usiz
     ensures { Fills out.old out.new (part_form L.WireLeaf.written (part_of cell.now)) result }
 {
     match cell {
-        EntryCell::Variable => put_header(16, 0, out),
+        EntryCell::Variable => put_header(Tag::Variable, 0, out),
         EntryCell::Leaf(value) => put_leaf::<L>(value, out),
-        EntryCell::Node(node) => match numbers(&node.args) {
-            Some(args) => put_node::<L>(node.symbol, args, out),
-            None => 0,
-        },
+        EntryCell::Node(node) => { put_node::<L>(node.symbol, node.args.numbers().unwrap(), out) }
     }
 }

@@ -1,89 +1,65 @@
 // One entry of a book, tested.
-ghost use Rattle.std.specs.Prelude.{◌≡◌, ◌+◌, ◌<◌, ◌≤◌, List, length, IfOk};
+ghost use Rattle.std.specs.Prelude.{◌≡◌, ◌+◌, ◌≤◌, length};
 ghost use Rattle.std.specs.Option.{option_map};
-ghost use Rattle.theory.specs.Entries.{Part};
 ghost use Rattle.book.specs.Answers.{kind_of as kind_meant};
-ghost use Rattle.form.specs.Meanings.{closed, entry_kind};
-ghost use Rattle.wire.specs.Reads.{ClosedAs, FoundAs, RowStep, ending_read};
+ghost use Rattle.form.specs.Meanings.{entry_kind};
+ghost use Rattle.wire.specs.Reads.{ClosedAs, FoundAs};
 
-use crate::contents::GoodEntry;
-use crate::faults::in_row;
 use crate::field::Split;
+use crate::good_entry::GoodEntry;
 use crate::item::Goals;
 use crate::read_contents::test_contents;
-use crate::split::split;
+use crate::spot::Spot;
+use crate::tag::Tag;
 use book::entry::EntryKind;
+use book::interface::MOST_ENTRIES;
 use form::fault::{Cause, Fault};
 use leaf::kind::WireLeaf;
 
-// The kind of entry that the tag stands for.
+// The kind of entry that the number stands for, if it is the tag of one: read and narrowed in one step, by no conversion
+// of its own.
 fn kind_of(tag: u8) -> Option<EntryKind>
     ensures { option_map kind_meant result ≡ entry_kind tag }
 {
-    match tag {
-        1 => Some(EntryKind::Clause),
-        2 => Some(EntryKind::CoFact),
+    match Tag::try_from(tag).ok()? {
+        Tag::Clause => Some(EntryKind::Clause),
+        Tag::CoFact => Some(EntryKind::CoFact),
         _ => None,
     }
 }
 
 // The goals of an entry, if its contents ended with some and it may have their body.
-fn close(kind: EntryKind, goals: Option<Goals>, place: usize, entry: usize) -> Result<Goals, Fault>
-    ensures { ClosedAs (kind_meant kind) place «entry» goals result }
+fn close(kind: EntryKind, goals: Option<Goals>, spot: Spot) -> Result<Goals, Fault>
+    ensures { ClosedAs (kind_meant kind) spot goals result }
 {
-    let Some(goals) = goals else {
-        return Err(in_row(Cause::WrongGoals, place, entry));
-    };
-    match kind {
-        EntryKind::Clause => Ok(goals),
-        EntryKind::CoFact => {
-            if goals.body.len > 0 {
-                return Err(in_row(Cause::WrongGoals, place, entry));
-            }
-            Ok(goals)
-        }
+    match goals {
+        Some(goals) if kind == EntryKind::Clause || goals.body.len == 0 => Ok(goals),
+        _ => Err(spot.in_row(Cause::WrongGoals)),
     }
 }
 
 // Tests a field of the book's row as an entry.
-fn test_entry<'a, L: WireLeaf>(
+pub(crate) fn test_entry<'a, L: WireLeaf>(
     field: &Split<'a>,
-    place: usize,
-    entry: usize,
+    spot: Spot,
 ) -> Result<GoodEntry<'a>, Fault>
-    requires { place + (3 + length field.now.contents.now) ≤ 65535 }
-    ensures { FoundAs L.WireLeaf.wide L.WireLeaf.reading place «entry» field.now result }
+    requires { spot.place + (3 + length field.now.contents.now) ≤ 65535 }
+    ensures { FoundAs L.WireLeaf.wide L.WireLeaf.reading spot field.now result }
 {
-    let Some(kind) = kind_of(field.tag) else {
-        return Err(in_row(Cause::WrongTag, place, entry));
-    };
-    if entry >= 1024 {
-        return Err(in_row(Cause::TooMuch, place, entry));
+    let kind = kind_of(field.tag).ok_or(spot.in_row(Cause::WrongTag))?;
+    if spot.entry >= MOST_ENTRIES {
+        return Err(spot.in_row(Cause::TooMuch));
     }
     let contents = field.contents;
-    let goals = test_contents::<L>(contents, place + 3, entry)?;
-    let goals = close(kind, goals, place, entry)?;
+    let inner = Spot {
+        place: spot.place + 3,
+        entry: spot.entry,
+    };
+    let goals = close(kind, test_contents::<L>(contents, inner)?, spot)?;
     Ok(GoodEntry {
         kind,
         goals,
-        place: place + 3,
+        spot: inner,
         contents,
-        left: field.rest,
     })
-}
-
-// Tests the entry that the bytes begin with.
-pub(crate) fn next_entry<'a, L: WireLeaf>(
-    rest: &'a [u8],
-    place: usize,
-    entry: usize,
-) -> Result<GoodEntry<'a>, Fault>
-    requires { (0 < length rest.now) × (place + length rest.now ≤ 65535) }
-    ensures shorter { IfOk result (λ e. length e.left.now < length rest.now) }
-    ensures means { RowStep L.WireLeaf.wide L.WireLeaf.reading place «entry» rest.now result }
-{
-    match split(rest) {
-        Some(field) => test_entry::<L>(&field, place, entry),
-        None => Err(in_row(Cause::PastEnd, place, entry)),
-    }
 }

@@ -1,11 +1,12 @@
 // How many bytes the entries of a book are written as.
-ghost use Rattle.std.specs.Prelude.{◌≡◌, ◌*◌, ◌≤◌, length, Some};
+ghost use Rattle.std.specs.Prelude.{◌≡◌, ◌≤◌, length};
 ghost use Rattle.std.specs.List.{slice_get, flat_map};
-ghost use Rattle.book.specs.Answers.{outline_at, part_of};
+ghost use Rattle.book.specs.Answers.{part_of};
 ghost use Rattle.form.specs.Forms.{book_form, contents_form, entry_form, part_form};
 ghost use Rattle.wire.specs.Writes.{parts_in, shown};
 
-use book::entry::{EntryCell, Outline};
+use crate::book_entry::BookEntry;
+use book::entry::EntryCell;
 use book::interface::Book;
 use leaf::kind::WireLeaf;
 
@@ -21,43 +22,36 @@ fn size_of_cell<L: WireLeaf>(cell: &EntryCell<L>) -> usize
     }
 }
 
-// How many bytes the cells of an entry are written as.
-fn size_of_cells<L: WireLeaf, B: Book<L>>(book: &B, index: usize, count: usize) -> usize
-    requires { count ≡ length (parts_in (slice_get (B.Book.entries book.now) index)) }
-    ensures value { result ≡ length (flat_map (part_form L.WireLeaf.written) (parts_in (slice_get (B.Book.entries book.now) index))) }
-    ensures small { result ≤ 16640 }
-{
-    let mut size = 0;
-    for j in 0..count {
-        match book.cell(index, j) {
-            Some(cell) => size += size_of_cell::<L>(&cell),
-            None => return size,
+impl<L: WireLeaf, B: Book<L>> BookEntry<'_, L, B> {
+    // How many bytes the cells are written as.
+    fn size_of_cells(&self) -> usize
+        ensures value { result ≡ length (flat_map (part_form L.WireLeaf.written) (parts_in (slice_get (B.Book.entries self.now.book.now) self.now.index))) }
+        ensures small { result ≤ 16640 }
+    {
+        // A book is asked for its cells by number. Their sizes are added up by a loop, here and below, since a `sum` would
+        // have to be told beforehand that they add up to less than a word holds.
+        let mut size = 0;
+        for j in 0..self.outline.cells {
+            let cell = self.book.cell(self.index, j).unwrap();
+            size += size_of_cell::<L>(&cell);
         }
+        size
     }
-    size
-}
 
-// How many bytes an entry holds: its cells and its goals.
-pub(crate) fn size_of_contents<L: WireLeaf, B: Book<L>>(
-    book: &B,
-    index: usize,
-    outline: Outline,
-) -> usize
-    requires { Some outline ≡ outline_at (B.Book.entries book.now) index }
-    ensures value { result ≡ length (shown (contents_form L.WireLeaf.written) (slice_get (B.Book.entries book.now) index)) }
-    ensures small { result ≤ 16652 }
-{
-    size_of_cells::<L, B>(book, index, outline.cells) + 4 + outline.goals
-}
+    // How many bytes the entry holds: its cells and its goals.
+    pub fn size_of_contents(&self) -> usize
+        ensures value { result ≡ length (shown (contents_form L.WireLeaf.written) (slice_get (B.Book.entries self.now.book.now) self.now.index)) }
+        ensures small { result ≤ 16652 }
+    {
+        self.size_of_cells() + 4 + self.outline.goals
+    }
 
-// How many bytes an entry is written as.
-fn size_of_entry<L: WireLeaf, B: Book<L>>(book: &B, index: usize) -> usize
-    ensures value { result ≡ length (shown (entry_form L.WireLeaf.written) (slice_get (B.Book.entries book.now) index)) }
-    ensures small { result ≤ 16655 }
-{
-    match book.outline(index) {
-        Some(outline) => 3 + size_of_contents::<L, B>(book, index, outline),
-        None => 0,
+    // How many bytes the entry is written as.
+    fn size(&self) -> usize
+        ensures value { result ≡ length (shown (entry_form L.WireLeaf.written) (slice_get (B.Book.entries self.now.book.now) self.now.index)) }
+        ensures small { result ≤ 16655 }
+    {
+        3 + self.size_of_contents()
     }
 }
 
@@ -67,7 +61,8 @@ pub(crate) fn size_of_book<L: WireLeaf, B: Book<L>>(book: &B) -> usize
 {
     let mut size = 0;
     for i in 0..book.len() {
-        size += size_of_entry::<L, B>(book, i);
+        let entry = BookEntry::<L, B>::of(book, i).unwrap();
+        size += entry.size();
     }
     size
 }

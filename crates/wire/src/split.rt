@@ -8,18 +8,14 @@ use crate::field::Split;
 pub fn split(bytes: &[u8]) -> Option<Split<'_>>
     ensures { MatchOption result (whole bytes.now ≡ false) (SplitOf bytes.now) }
 {
-    match bytes {
-        [tag, hi, lo, rest @ ..] => {
-            let size = usize::from(*hi) * 256 + usize::from(*lo);
-            if size > rest.len() {
-                return None;
-            }
-            Some(Split {
-                tag: *tag,
-                contents: &rest[0..size],
-                rest: &rest[size..],
-            })
-        }
-        _ => None,
-    }
+    let [tag, hi, lo, rest @ ..] = bytes else {
+        return None;
+    };
+    let size = usize::from(u16::from_be_bytes([*hi, *lo]));
+    let (contents, rest) = rest.split_at_checked(size)?;
+    Some(Split {
+        tag: *tag,
+        contents,
+        rest,
+    })
 }

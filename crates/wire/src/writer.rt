@@ -3,7 +3,8 @@ ghost use Rattle.leaf.specs.Outputs.{Fills};
 ghost use Rattle.form.specs.Forms.{book_form};
 ghost use Rattle.wire.specs.Writes.{WriteMeans, refusal_number};
 
-use crate::put_entry::put_entry;
+use crate::book_entry::BookEntry;
+use crate::inspect::MOST_BYTES;
 use crate::sizes::size_of_book;
 use book::interface::Book;
 use leaf::kind::WireLeaf;
@@ -12,7 +13,7 @@ use leaf::kind::WireLeaf;
 #[derive(Clone, Copy, PartialEq, Eq, Debug)]
 pub enum WriteRefusal {
     // its form has more than 65,535 bytes
-    TooMuch,
+    TooMuch = 13,
     // the output has fewer bytes than the form
     ShortOutput,
 }
@@ -22,21 +23,20 @@ impl WriteRefusal {
     pub fn number(self) -> u8
         ensures { result ≡ refusal_number self }
     {
-        match self {
-            WriteRefusal::TooMuch => 13,
-            WriteRefusal::ShortOutput => 14,
-        }
+        self as u8
     }
 }
 
 // Writes the entries one after another, each into what is left of the output.
+// The loops over entries, cells and goals stay three: one over a closure would have to say what each call writes, which is longer.
 fn put_book<L: WireLeaf, B: Book<L>>(book: &B, out: &mut [u8]) -> usize
     requires { length (book_form L.WireLeaf.written (B.Book.entries book.now)) ≤ length out.old }
     ensures { Fills out.old out.new (book_form L.WireLeaf.written (B.Book.entries book.now)) result }
 {
     let mut at = 0;
     for i in 0..book.len() {
-        at += put_entry::<L, B>(book, i, &mut out[at..]);
+        let entry = BookEntry::<L, B>::of(book, i).unwrap();
+        at += entry.put(&mut out[at..]);
     }
     at
 }
@@ -47,7 +47,7 @@ pub fn write<L: WireLeaf, B: Book<L>>(book: &B, out: &mut [u8]) -> Result<usize,
     ensures { WriteMeans (book_form L.WireLeaf.written (B.Book.entries book.now)) out.old out.new result }
 {
     let size = size_of_book::<L, B>(book);
-    if size > 65535 {
+    if size > MOST_BYTES {
         return Err(WriteRefusal::TooMuch);
     }
     if out.len() < size {

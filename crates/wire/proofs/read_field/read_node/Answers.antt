@@ -1,4 +1,4 @@
-use Rattle.std.proofs.Common.{refl, ◌∙◌}
+use Rattle.std.proofs.Common.{refl, rules, ◌∙◌}
 use Rattle.wire.proofs.Every.{every_below}
 use Rattle.wire.proofs.read_field.read_node.Goals as goal
 
@@ -11,6 +11,6 @@ returns-then-not-all_below c = (
 pub returns : goal.returns
 returns c = (
   refl,
-  c.in-Some.ensures,
+  search rules,
   every_below c.args.count c.args.args.now c.all_below.result c.all_below.ensures ∙ c.if-not-all_below.false,
 )
