@@ -1,6 +1,11 @@
 -- The first cells of a list, when those alone have changed.
-use Rattle.std.proofs.Common.{◌≡◌, ℕ, ◌≤◌, List, ◌++◌, length, take, drop, arith, length-append, length-drop, length-take}
+use Rattle.std.proofs.Common.{◌≡◌, ℕ, ◌≤◌, List, ◌++◌, length, take, drop, sym, ◌∙◌, arith, length-append, length-drop, length-take}
 use Rattle.std.proofs.lemmas.List.{take_at}
+
+-- a list that is written back whole
+pub refill : {X : Type 0} (n : ℕ) (xs ws : List X) → n ≡ length xs → length ws ≡ length xs →
+    take n (ws ++ drop (length ws) xs) ≡ ws
+refill n xs ws e h = take_at ws (drop (length ws) xs) n (h ∙ sym e)
 
 module _ {X : Type 0} (n : ℕ) (xs ys : List X) (h : n ≤ length xs) (e : length ys ≡ length (take n xs)) where
   front_length : length ys ≡ n

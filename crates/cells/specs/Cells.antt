@@ -1,5 +1,5 @@
 -- The cells of a slate, as the unifier has them and as a sitting has them.
-use Rattle.std.specs.Prelude.{ℕ, ◌≤◌, List, map, length, take, Some, None, Option}
+use Rattle.std.specs.Prelude.{ℕ, ◌≤◌, List, [], map, length, take, Some, None, Option}
 use Rattle.std.specs.List.{AllByRecursion}
 use Rattle.cells.specs.declared.cell.Content.{Content}
 use Rattle.cells.specs.declared.cell.Content.TheVariants.{Open, Leaf, Node}
@@ -24,6 +24,12 @@ cell_of c = record { content = content_of c.content; joined = c.joined }
 -- all cells, as the unifier has them
 abbrev pub cells_of : {L : Type 0} → List (Cell L) → List (C.Cell L)
 cells_of cells = map cell_of cells
+
+-- the cells that a node was written over; nothing else has any
+abbrev pub arguments_of : {L : Type 0} → Content L → List ℕ
+arguments_of Open = []
+arguments_of (Leaf v) = []
+arguments_of (Node symbol arguments count) = take count arguments
 
 -- no more arguments counted than there are
 abbrev pub Counted : {L : Type 0} → Content L → Type 0

@@ -7,4 +7,3 @@ pub mod chains;
 mod joins;
 pub mod undo;
 pub mod unifier;
-pub mod writes;

@@ -19,7 +19,7 @@ use Rattle.slate.specs.declared.slate.Slate.{Slate}
 use Rattle.cells.specs.Cells.{cell_of, lying}
 use Rattle.cells.specs.Loops.{Given, Did, Told}
 use Rattle.slate.specs.Refusals.{refusal_of}
-use Rattle.slate.specs.Slates.{supplied, in_use, on_slate, Refuses, Kept, CarriesOn, wrote_or, same_or, Written}
+use Rattle.slate.specs.Slates.{supplied, in_use, on_slate, Refuses, Kept, CarriesOn, wrote_or, same_or, Written, Admits}
 use Rattle.slate.proofs.Unused.{all_used}
 use Rattle.slate.proofs.Next.{sound_out}
 use Rattle.slate.proofs.Standing.{means_known, number_known, stands_for, stands_written}
@@ -181,20 +181,20 @@ module _ {L : Type 0} where
         refl (λ b. refl)
 
     module _ (x y n : ℕ) where
-      pub equate_not_in_use : (c : ℕ) → first_unused s.used (x ∷ y ∷ []) ≡ Some c → Kept s s (equate x y n)
+      equate_not_in_use : (c : ℕ) → first_unused s.used (x ∷ y ∷ []) ≡ Some c → Kept s s (equate x y n)
           (refused (not_in_use c))
       equate_not_in_use c u =
           kept (λ book k ok st. (bar k s.used (x ∷ y ∷ []) c _ (known_used s k st) u, st))
           refl (λ b. refl)
 
-      pub compare_not_in_use : (c : ℕ) → first_unused s.used (x ∷ y ∷ []) ≡ Some c → Kept s s (compare x y n)
+      compare_not_in_use : (c : ℕ) → first_unused s.used (x ∷ y ∷ []) ≡ Some c → Kept s s (compare x y n)
           (refused (not_in_use c))
       compare_not_in_use c u =
           kept (λ book k ok st. (bar k s.used (x ∷ y ∷ []) c _ (known_used s k st) u, st))
           refl (λ b. refl)
 
       module _ (u : first_unused s.used (x ∷ y ∷ []) ≡ None) (h : n < 9 * capacity (supplied s)) where
-        pub equate_too_short : Kept s s (equate x y n) (refused too_short)
+        equate_too_short : Kept s s (equate x y n) (refused too_short)
         equate_too_short =
             kept (λ book k ok st. (
               pass k s.used (x ∷ y ∷ []) (refused too_short) _ (known_used s k st) u
@@ -203,7 +203,7 @@ module _ {L : Type 0} where
             ))
             refl (λ b. refl)
 
-        pub compare_too_short : Kept s s (compare x y n) (refused too_short)
+        compare_too_short : Kept s s (compare x y n) (refused too_short)
         compare_too_short =
             kept (λ book k ok st. (
               pass k s.used (x ∷ y ∷ []) (refused too_short) _ (known_used s k st) u
@@ -253,3 +253,17 @@ module _ {L : Type 0} where
           subst (λ cs. StandsFor (map lying cs) k) (sym e) st,
         ))
         m (λ b. e)
+
+  module _ (s : Slate L) (x y n : ℕ) (e : Refusal) where
+    -- a refusal by them, of equating and of comparing
+    pub equate_barred : Admits {U = Unit {0}} s n x y (Err e) → Kept s s (equate x y n) (refused (refusal_of e))
+    equate_barred (inl h) = subst (λ d. Kept s s (equate x y n) (refused (refusal_of d))) (sym h.1)
+        (equate_not_in_use s x y n h.0 h.2)
+    equate_barred (inr h) = subst (λ d. Kept s s (equate x y n) (refused (refusal_of d))) (sym h.0)
+        (equate_too_short s x y n h.1 h.2)
+
+    pub compare_barred : Admits {U = Unit {0}} s n x y (Err e) → Kept s s (compare x y n) (refused (refusal_of e))
+    compare_barred (inl h) = subst (λ d. Kept s s (compare x y n) (refused (refusal_of d))) (sym h.1)
+        (compare_not_in_use s x y n h.0 h.2)
+    compare_barred (inr h) = subst (λ d. Kept s s (compare x y n) (refused (refusal_of d))) (sym h.0)
+        (compare_too_short s x y n h.1 h.2)

@@ -1,11 +1,11 @@
 -- The next cell of a slate.
-use Rattle.std.proofs.Common.{◌≡◌, ℕ, ◌+◌, ◌<◌, List, [], ◌∷◌, ◌++◌, length, take, drop, set, None, sym, refl, ap, ◌∙◌, subst, arith, length-set, length-take}
+use Rattle.std.proofs.Common.{◌≡◌, ℕ, ◌+◌, ◌<◌, List, [], ◌∷◌, length, take, set, None, sym, refl, ap, ◌∙◌, subst, arith, length-take}
 use mathlib.Core.HLevel.{×_prop}
 use mathlib.Core.List.{map-append}
 use mathlib.Core.Logic.{∥∥₁_elim}
 use native.Mathlib.Bridge.{le_prop}
 use lib.ListN.{length-map}
-use Rattle.std.proofs.lemmas.List.{take_more_set, take_at}
+use Rattle.std.proofs.lemmas.List.{take_more_set}
 use Rattle.std.proofs.ByRecursion.{All-push}
 use Rattle.cells.specs.declared.cell.Content.{Content}
 use Rattle.cells.specs.declared.cell.Content.TheVariants.{Open, Leaf, Node}
@@ -14,12 +14,11 @@ use Rattle.cells.specs.Cells.{cell_of, cells_of, content_of, Counted, AllCounted
 use Rattle.unify.specs.Solved.{Solved}
 use Rattle.unify.specs.Writing.{write, Writable}
 use Rattle.unify.proofs.OneProof.{solved_prop}
-use Rattle.unify.proofs.Written.{writing}
+use Rattle.unify.proofs.Written.{writing, none_solved}
 
--- a list that is written back whole
-pub refill : {X : Type 0} (n : ℕ) (xs ws : List X) → n ≡ length xs → length ws ≡ length xs → take n
-    (ws ++ drop (length ws) xs) ≡ ws
-refill n xs ws e h = take_at ws (drop (length ws) xs) n (h ∙ sym e)
+-- no cells are sound
+pub none_sound : {L : Type 0} → ∥ WellFormed {L = L} [] ∥₁
+none_sound = ∣ record { solved = none_solved; counted = tt } ∣₁
 
 module _ {L : Type 0} where
   -- a new cell
@@ -61,11 +60,3 @@ module _ {L : Type 0} where
       where
         small : length (cells_of (take n xs)) < 2048
         small = omega (arith, length-map (take n xs) cell_of, length-take n xs)
-
-  -- the supplied cells after a write into one
-  pub after_put : (len n : ℕ) (xs ys ws : List (Cell L)) (c : Content L) → len ≡ length xs → ys ≡ xs → ws ≡ set ys n
-      (fresh c) →
-      take len (ws ++ drop (length ws) xs) ≡ set xs n (fresh c)
-  after_put len n xs ys ws c e p q =
-      let r : ws ≡ set xs n (fresh c) = q ∙ ap (λ l. set l n (fresh c)) p in
-      refill len xs ws e (ap length r ∙ length-set xs n (fresh c)) ∙ r

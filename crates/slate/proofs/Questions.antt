@@ -1,7 +1,6 @@
 -- What is read from a slate.
-use Rattle.std.proofs.Common.{◌≡◌, ℕ, zero, suc, ◌<◌, ◌≤◌, Bool, true, false, List, [], ◌∷◌, length, get_or, take, Some, Ok, vec_items, sym, refl, ap, ◌∙◌, inl, inr, le_of_suc-le-suc, not-suc-le-zero, arith, length-take}
+use Rattle.std.proofs.Common.{◌≡◌, ℕ, zero, suc, ◌<◌, ◌≤◌, Bool, true, false, List, [], ◌∷◌, length, get_or, take, Some, Ok, vec_items, refl, ap, ◌∙◌, inl, inr, le_of_suc-le-suc, not-suc-le-zero, arith, length-take}
 use Rattle.std.specs.List.{slice_get}
-use Rattle.std.proofs.lemmas.List.{get_or-take}
 use Rattle.unify.specs.Cells.{root, joined_at, content_at}
 use Rattle.unify.proofs.Roots.{root_ends}
 use Rattle.unify.proofs.Meant.{meaning}
@@ -15,12 +14,10 @@ use Rattle.slate.proofs.Next.{sound_out}
 use Rattle.slate.proofs.Standing.{means_known}
 
 module _ {L : Type 0} where
-  nth_read : (n : ℕ) (xs : List (Cell L)) (i : ℕ) (c : Cell L) → i < n → n ≤ length xs → c ≡ get_or xs i c →
-      slice_get (cells_of (take n xs)) i ≡ Some (cell_of c)
-  nth_read zero xs i c h l e = absurd (not-suc-le-zero h)
-  nth_read (suc n) [] i c h l e = absurd (not-suc-le-zero l)
-  nth_read (suc n) (d ∷ xs) zero c h l e = ap (λ x. Some (cell_of x)) (sym e)
-  nth_read (suc n) (d ∷ xs) (suc i) c h l e = nth_read n xs i c (le_of_suc-le-suc h) (le_of_suc-le-suc l) e
+  nth_read : (xs : List (Cell L)) (i : ℕ) (c : Cell L) → i < length xs → slice_get (cells_of xs) i ≡ Some (cell_of (get_or xs i c))
+  nth_read [] i c h = absurd (not-suc-le-zero h)
+  nth_read (d ∷ xs) zero c h = refl
+  nth_read (d ∷ xs) (suc i) c h = nth_read xs i c (le_of_suc-le-suc h)
 
   module _ (set : IsSet L) (s : Slate L) where
     -- the cells in use are sound
@@ -32,20 +29,14 @@ module _ {L : Type 0} where
     part_of = omega (arith, s.within, s.cells.ok.0)
 
     module _ (i : ℕ) (h : i < s.used) where
-      pub reads : (c : Cell L) → c ≡ get_or (vec_items s.cells) i c → Reads s i (Ok c)
-      reads c e = (
-        nth_read s.used (vec_items s.cells) i c h part_of e,
-        counted_read (take s.used (vec_items s.cells)) i c (omega (
-          arith,
-          length-take s.used
-              (vec_items s.cells),
-          part_of,
-        ))
-            (e ∙ sym (get_or-take s.used (vec_items s.cells) i c h)) sound_of.counted,
-      )
+      pub reads : (c : Cell L) → Reads s i (Ok (get_or (take s.used (vec_items s.cells)) i c))
+      reads c =
+          let cells = take s.used (vec_items s.cells) in
+          let inside : i < length cells = omega (arith, length-take s.used (vec_items s.cells), part_of) in
+          (nth_read cells i c inside, counted_read cells i c inside sound_of.counted)
 
-      pub leads : (r : ℕ) → r ≡ root (in_use s) i → r < s.used → Leads s i (Ok r)
-      leads r e k = (h, k, e, ap (joined_at (in_use s)) e ∙ root_ends (in_use s) sound_of.solved.descends i)
+      pub leads : (r : ℕ) → r ≡ root (in_use s) i → r < length (take s.used (vec_items s.cells)) → Leads s i (Ok r)
+      leads r e k = (h, omega (arith, length-take s.used (vec_items s.cells), k), e, ap (joined_at (in_use s)) e ∙ root_ends (in_use s) sound_of.solved.descends i)
 
       pub tells : (b : Bool) → TellsNode (content_at (in_use s) (root (in_use s) i)) b → TellsAtom s i (Ok b)
       tells true t = (

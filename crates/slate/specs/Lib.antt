@@ -1,2 +1,3 @@
+pub mod RefusalTexts
 pub mod Refusals
 pub mod Slates

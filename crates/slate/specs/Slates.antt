@@ -1,5 +1,5 @@
 -- Slates, and what each call on one keeps.
-use Rattle.std.specs.Prelude.{◌≡◌, ℕ, ◌*◌, ◌<◌, ◌≤◌, Bool, true, false, List, [], map, take, Some, None, Ok, Err, vec_items, vec_len, Result}
+use Rattle.std.specs.Prelude.{◌≡◌, ℕ, ◌*◌, ◌<◌, ◌≤◌, Bool, true, false, ◌⊎◌, List, [], ◌∷◌, map, take, Some, None, Ok, Err, vec_items, vec_len, Result}
 use Rattle.std.specs.List.{slice_get}
 use Rattle.theory.specs.Equations.{IsAtom}
 use Rattle.theory.specs.Entries.{Entry, BookRules}
@@ -101,6 +101,11 @@ Written old new c (Ok n) = (n ≡ old.used) × (old.used < capacity (supplied ol
 Written old new c (Err e) = (e ≡ NoCell) × (capacity (supplied old) ≤ old.used) ×
     (in_use new ≡ in_use old) × (supplied new ≡ supplied old)
 
+-- whether a cell is in use
+abbrev pub InUse : {U : Type 0} → ℕ → ℕ → Result U Refusal → Type 0
+InUse used c (Ok u) = c < used
+InUse used c (Err e) = (e ≡ NotInUse c) × (used ≤ c)
+
 -- whether all cells of a list are in use, or which is the first that is not
 abbrev pub AllInUse : {U : Type 0} → ℕ → List ℕ → Result U Refusal → Type 0
 AllInUse used cs (Ok u) = first_unused used cs ≡ None
@@ -110,6 +115,13 @@ AllInUse used cs (Err e) = (c : ℕ) × (e ≡ NotInUse c) × (first_unused used
 abbrev pub LongEnough : {U : Type 0} → ℕ → ℕ → Result U Refusal → Type 0
 LongEnough cells work (Ok u) = 9 * capacity cells ≤ work
 LongEnough cells work (Err e) = (e ≡ TooShort) × (work < 9 * capacity cells)
+
+-- whether two terms can be equated or compared with a work list, or which of the two tests comes first that refuses them
+abbrev pub Admits : {L U : Type 0} → Slate L → ℕ → ℕ → ℕ → Result U Refusal → Type 0
+Admits s work x y (Ok u) = (first_unused s.used (x ∷ y ∷ []) ≡ None) × (9 * capacity (supplied s) ≤ work)
+Admits s work x y (Err e) =
+    ((c : ℕ) × (e ≡ NotInUse c) × (first_unused s.used (x ∷ y ∷ []) ≡ Some c)) ⊎
+    ((e ≡ TooShort) × (first_unused s.used (x ∷ y ∷ []) ≡ None) × (work < 9 * capacity (supplied s)))
 
 -- what is read from a cell: what was written into it and what it is joined to; or that it is not in use
 abbrev pub Reads : {L : Type 0} → Slate L → ℕ → Result (Cell L) Refusal → Type 0

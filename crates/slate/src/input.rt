@@ -1,17 +1,25 @@
 // What a call tests of its input.
-ghost use Rattle.slate.specs.Slates.{AllInUse, LongEnough};
+ghost use Rattle.slate.specs.Slates.{InUse, AllInUse, LongEnough};
 
 use crate::limits::{MOST_CELLS, WORK_PER_CELL};
 use crate::refusal::Refusal;
+
+// Refuses a cell that is not in use.
+pub(crate) fn in_use(used: usize, cell: u16) -> Result<(), Refusal>
+    ensures { InUse used cell result }
+{
+    if used <= cell as usize {
+        return Err(Refusal::NotInUse { cell });
+    }
+    Ok(())
+}
 
 // Refuses the first cell that is not in use.
 pub fn all_in_use(used: usize, cells: &[u16]) -> Result<(), Refusal>
     ensures { AllInUse used cells.now result }
 {
     for cell in cells {
-        if used <= *cell as usize {
-            return Err(Refusal::NotInUse { cell: *cell });
-        }
+        in_use(used, *cell)?;
     }
     Ok(())
 }

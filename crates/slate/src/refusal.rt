@@ -1,7 +1,37 @@
 // Why a call is refused.
-ghost use Rattle.std.specs.Prelude.{◌≡◌};
+ghost use Rattle.std.specs.Prelude.{◌≡◌, Some};
 ghost use Rattle.theory.specs.Calls.{number as number_of};
-ghost use Rattle.slate.specs.Refusals.{refusal_of};
+ghost use Rattle.slate.specs.Refusals.{refusal_of, rule_number};
+ghost use Rattle.slate.specs.RefusalTexts.{text_of_refusal};
+
+use std::error::Error;
+use std::fmt;
+
+// What a record must keep. The numbers are those of the rules.
+#[derive(Clone, Copy, PartialEq, Eq, Debug)]
+pub enum Rule {
+    // a step has a pending goal and one of the three modes
+    GoalAndMode = 2,
+    // mode 1 takes a clause for an outer goal
+    ClauseForOuter = 3,
+    // mode 2 closes a loop of an outer goal with a step on its path
+    LoopOfOuter = 4,
+    // mode 3 takes any entry for an inner goal
+    EntryForInner = 5,
+    // at the record's end no goal is pending
+    NonePending = 6,
+    // the equations keep a reading
+    Reading = 7,
+}
+
+impl Rule {
+    // The number that stands for the rule.
+    pub fn number(self) -> u8
+        ensures { result ≡ rule_number self }
+    {
+        self as u8
+    }
+}
 
 // A refusal, with what it carries: the first bad cell, the first bad step and its rule, or a search's count.
 #[derive(Clone, Copy, PartialEq, Eq, Debug)]
@@ -11,7 +41,7 @@ pub enum Refusal {
     NotAnAtom { cell: u16 },
     TooLong,
     TooShort,
-    Unlawful { step: u16, rule: u8 },
+    Unlawful { step: u16, rule: Rule },
     NoCell,
     Clash,
     NoCellAfter { count: u32 },
@@ -20,7 +50,7 @@ pub enum Refusal {
 }
 
 impl Refusal {
-    // The number that stands for the refusal.
+    // The number that stands for the refusal. Two refusals share 20, so it is no discriminant.
     pub fn number(self) -> u8
         ensures { result ≡ number_of (refusal_of self) }
     {
@@ -31,11 +61,34 @@ impl Refusal {
             Refusal::TooLong => 4,
             Refusal::TooShort => 5,
             Refusal::Unlawful { .. } => 6,
-            Refusal::NoCell => 20,
+            Refusal::NoCell | Refusal::NoCellAfter { .. } => 20,
             Refusal::Clash => 21,
-            Refusal::NoCellAfter { .. } => 20,
             Refusal::SpentAfter { .. } => 22,
             Refusal::FullAfter { .. } => 23,
         }
     }
 }
+
+// The refusal's number, and what it carries.
+impl fmt::Display for Refusal {
+    ghost output = { λ r. Some (text_of_refusal (refusal_of r)) };
+
+    fn fmt<W: fmt::Write>(&self, f: &mut fmt::Formatter<W>) -> fmt::Result {
+        let number = self.number();
+        match self {
+            Refusal::NotInUse { cell } | Refusal::NotAnAtom { cell } => {
+                write!(f, "{number} cell {cell}")
+            }
+            Refusal::Unlawful { step, rule } => {
+                let rule = rule.number();
+                write!(f, "{number} step {step} rule {rule}")
+            }
+            Refusal::NoCellAfter { count }
+            | Refusal::SpentAfter { count }
+            | Refusal::FullAfter { count } => write!(f, "{number} tries {count}"),
+            _ => write!(f, "{number}"),
+        }
+    }
+}
+
+impl Error for Refusal {}

@@ -8,8 +8,9 @@ ghost use Rattle.cells.specs.Cells.{WellFormed};
 
 use cells::cell::Cell;
 
-// The cells in use are in solved form. Cells past the first 2,048 are never in use. The fields are open to the solver:
-// whoever changes them owes the ghost fields.
+// The cells in use are in solved form. How many they are stands beside the supplied cells, since no call allocates.
+// Cells past the first 2,048 are never in use. The fields are open to the solver: whoever changes them owes the ghost
+// fields.
 #[derive(Drop)]
 pub struct Slate<L> {
     pub cells: Vec<Cell<L>>,

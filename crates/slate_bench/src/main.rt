@@ -1,7 +1,7 @@
 // Times equate and compare over growing terms. It prints nothing unless it is called with the word `times`.
 #![tactic(auto)]
 
-use anyhow::anyhow;
+use anyhow::{anyhow, bail};
 use leaf::accession_number::AccessionNumber;
 use slate::cell::{Cell, Content};
 use slate::refusal::Refusal;
@@ -10,48 +10,42 @@ use std::alloc::Global;
 use std::env;
 use std::time::Instant;
 
-// The kinds of term that are timed.
-#[derive(Clone, Copy)]
-enum Shape {
-    List,
-    Tree,
-    Cycle,
-}
-
 type Terms = Slate<AccessionNumber>;
 
 // Why a term could not be built or timed.
 fn refused(refusal: Refusal) -> anyhow::Error {
-    match refusal.number() {
-        20 => anyhow!("the slate is full"),
+    match refusal {
+        Refusal::NoCell | Refusal::NoCellAfter { .. } => anyhow!("the slate is full"),
         _ => anyhow!("a call was refused"),
     }
 }
 
 // A wiped slate on 2,048 cells.
 fn wiped(heap: Global) -> anyhow::Result<Terms> {
-    let cell = Cell {
-        content: Content::Open,
-        joined: None,
-    };
-    let cells = vec![in heap; cell; 2048]?;
+    let cells = vec![in heap; Cell::from(Content::Open); 2048]?;
     Ok(Slate::new(cells))
 }
 
 // So many nodes, each over the one before.
-fn chain(slate: &mut Terms, first: u16, nodes: u16) -> Result<u16, Refusal> {
+fn chain(slate: &mut Terms, first: u16, nodes: u16) -> anyhow::Result<u16> {
     let mut last = first;
     for _ in 0..nodes {
-        last = slate.node(1, &[last])?;
+        last = slate.node(1, &[last]).map_err(refused)?;
     }
     Ok(last)
 }
 
+// A list of so many cells.
+fn list(slate: &mut Terms, cells: u16) -> anyhow::Result<u16> {
+    let end = slate.leaf(AccessionNumber(7)).map_err(refused)?;
+    chain(slate, end, cells.saturating_sub(1))
+}
+
 // A cycle of so many nodes.
-fn cycle(slate: &mut Terms, work: &mut [u16], nodes: u16) -> Result<u16, Refusal> {
-    let first = slate.open()?;
+fn cycle(slate: &mut Terms, work: &mut [u16], nodes: u16) -> anyhow::Result<u16> {
+    let first = slate.open().map_err(refused)?;
     let last = chain(slate, first, nodes)?;
-    slate.equate(work, first, last)?;
+    slate.equate(work, first, last).map_err(refused)?;
     Ok(first)
 }
 
@@ -59,68 +53,39 @@ fn cycle(slate: &mut Terms, work: &mut [u16], nodes: u16) -> Result<u16, Refusal
 fn tree(heap: Global, slate: &mut Terms, leaves: u16) -> anyhow::Result<u16> {
     let mut row = Vec::new(heap);
     for _ in 0..leaves {
-        match slate.leaf(AccessionNumber(7)) {
-            Ok(cell) => row.push(cell)?,
-            Err(refusal) => return Err(refused(refusal)),
-        }
+        row.push(slate.leaf(AccessionNumber(7)).map_err(refused)?)?;
     }
-    for _ in 0..16u8 {
+    for _ in 0..leaves.trailing_zeros() {
         row = paired(heap, slate, &row)?;
     }
-    match row.first() {
-        Some(root) => Ok(*root),
-        None => Err(anyhow!("no leaves")),
-    }
+    row.first().copied().ok_or_else(|| anyhow!("no leaves"))
 }
 
 // A node over each two cells of a row; a row of one stays.
 fn paired(heap: Global, slate: &mut Terms, row: &[u16]) -> anyhow::Result<Vec<u16>> {
     let mut above = Vec::new(heap);
     for pair in row.chunks(2) {
-        match pair {
-            [left, right] => match slate.node(2, &[*left, *right]) {
-                Ok(cell) => above.push(cell)?,
-                Err(refusal) => return Err(refused(refusal)),
-            },
-            _ => above.extend_from_slice(pair)?,
-        }
+        let cell = match pair {
+            [one] => *one,
+            _ => slate.node(2, pair).map_err(refused)?,
+        };
+        above.push(cell)?;
     }
     Ok(above)
 }
 
-// One term of the shape, of about so many cells; the second cycle of a pair is one node longer, so that their lengths are coprime.
-fn term(
-    heap: Global,
-    slate: &mut Terms,
-    work: &mut [u16],
-    shape: Shape,
+// Builds two terms on a new slate, compares and then equates them, and prints the times.
+fn trial<B: FnOnce(&mut Terms, &mut [u16]) -> anyhow::Result<(u16, u16)>>(
+    rt: &HostRuntime,
+    name: &str,
     cells: u16,
-    second: bool,
-) -> anyhow::Result<u16> {
-    let built = match shape {
-        Shape::Tree => return tree(heap, slate, cells / 2),
-        Shape::List => match slate.leaf(AccessionNumber(7)) {
-            Ok(leaf) => chain(slate, leaf, cells.saturating_sub(1)),
-            Err(refusal) => Err(refusal),
-        },
-        Shape::Cycle => cycle(
-            slate,
-            work,
-            cells.saturating_sub(2).saturating_add(second as u16),
-        ),
-    };
-    match built {
-        Ok(cell) => Ok(cell),
-        Err(refusal) => Err(refused(refusal)),
-    }
-}
-
-// Compares and then equates two terms of so many cells each, and prints the times.
-fn trial(rt: &HostRuntime, name: &str, shape: Shape, cells: u16) -> anyhow::Result<()> {
+    build: B,
+) -> anyhow::Result<()>
+    requires { B.IsAlwaysCallable build }
+{
     let mut slate = wiped(rt.alloc())?;
     let mut work = vec![in rt.alloc(); 0u16; 18432]?;
-    let left = term(rt.alloc(), &mut slate, &mut work, shape, cells, false)?;
-    let right = term(rt.alloc(), &mut slate, &mut work, shape, cells, true)?;
+    let (left, right) = build(&mut slate, &mut work)?;
     let start = Instant::now(rt)?;
     let equal = slate.compare(&mut work, left, right);
     let compared = start.elapsed(rt)?;
@@ -128,26 +93,36 @@ fn trial(rt: &HostRuntime, name: &str, shape: Shape, cells: u16) -> anyhow::Resu
     let accepted = slate.equate(&mut work, left, right);
     let equated = start.elapsed(rt)?;
     if equal.is_err() || accepted.is_err() {
-        return Err(anyhow!("a call was refused"));
+        bail!("a call was refused");
     }
     println!(rt; "{name} of {cells} cells: compare {compared:?}, equate {equated:?}")?;
     Ok(())
 }
 
+// The second cycle of a pair is one node longer, so that their lengths are coprime.
 fn run(rt: &HostRuntime) -> anyhow::Result<()> {
-    let mut asked = false;
-    for word in env::args(rt)? {
-        asked = asked || word.as_str() == "times";
-    }
-    if !asked {
+    if !env::args(rt)?.any(|word| word.as_str() == "times") {
         return Ok(());
     }
     for cells in [128, 256, 512, 1023] {
-        trial(rt, "list", Shape::List, cells)?;
-        trial(rt, "cycle", Shape::Cycle, cells)?;
+        trial(
+            rt,
+            "list",
+            cells,
+            |slate, _| Ok((list(slate, cells)?, list(slate, cells)?)),
+        )?;
+        trial(rt, "cycle", cells, |slate, work| {
+            Ok((
+                cycle(slate, work, cells - 2)?,
+                cycle(slate, work, cells - 1)?,
+            ))
+        })?;
     }
     for cells in [128, 256, 512, 1024] {
-        trial(rt, "tree", Shape::Tree, cells)?;
+        trial(rt, "tree", cells, |slate, _| {
+            let heap = rt.alloc();
+            Ok((tree(heap, slate, cells / 2)?, tree(heap, slate, cells / 2)?))
+        })?;
     }
     Ok(())
 }

@@ -15,11 +15,7 @@ const Z: u16 = 9;
 
 // A wiped slate on so many cells.
 fn slate_of(heap: Global, count: usize) -> Result<Slate<AccessionNumber>, AllocError> {
-    let cell = Cell {
-        content: Content::Open,
-        joined: None,
-    };
-    let cells = vec![in heap; cell; count]?;
+    let cells = vec![in heap; Cell::from(Content::Open); count]?;
     Ok(Slate::new(cells))
 }
 

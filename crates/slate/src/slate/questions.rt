@@ -1,30 +1,29 @@
-// Questions about a slate, which change nothing.
-ghost use Rattle.std.specs.Prelude.{◌≡◌, ◌<◌, length, slice_index_or};
-ghost use Rattle.slate.specs.Slates.{in_use, Reads, Leads, TellsAtom};
+// Questions about a slate. They take it by `&mut`, as its calls do, and promise that nothing changed.
+ghost use Rattle.std.specs.Prelude.{◌≡◌, length, take, vec_items};
 
+use crate::input::in_use;
 use crate::refusal::Refusal;
 use crate::slate::Slate;
 use cells::cell::Cell;
-use cells::chains::{node_at_root, root_first};
+use cells::chains::{node_at_root, root};
 use leaf::kind::Leaf;
 
-// What lies at a place.
-fn lying<L: Leaf>(cells: &[Cell<L>], i: u16) -> Cell<L>
-    requires { i < length cells.now }
-    ensures { result ≡ slice_index_or cells.now i result }
-{
-    let cell = &cells[i as usize];
-    *cell
-}
-
 impl<L: Leaf> Slate<L> {
+    ghost use Rattle.slate.specs.Slates.{in_use as cells_of_use, Reads, Leads, TellsAtom};
+
+    // The cells in use.
+    fn written(&self) -> &[Cell<L>]
+        ensures { result.now ≡ take self.now.used (vec_items self.now.cells) }
+    {
+        &self.cells[..self.used]
+    }
+
     // How many cells are in use.
     pub fn cells_in_use(&mut self) -> usize
-        ensures is { result ≡ length (in_use self.old) }
+        ensures is { result ≡ length (cells_of_use self.old) }
         ensures unchanged { self.new ≡ self.old }
     {
-        let used = self.used;
-        used
+        self.written().len()
     }
 
     // Reads a cell.
@@ -32,11 +31,8 @@ impl<L: Leaf> Slate<L> {
         ensures reads { Reads self.old cell result }
         ensures unchanged { self.new ≡ self.old }
     {
-        if self.used <= cell as usize {
-            return Err(Refusal::NotInUse { cell });
-        }
-        let found = lying(self.cells.as_slice(), cell);
-        Ok(found)
+        in_use(self.used, cell)?;
+        Ok(self.written()[cell as usize])
     }
 
     // Follows the joins of a cell to their end.
@@ -44,10 +40,8 @@ impl<L: Leaf> Slate<L> {
         ensures leads { Leads self.old cell result }
         ensures unchanged { self.new ≡ self.old }
     {
-        if self.used <= cell as usize {
-            return Err(Refusal::NotInUse { cell });
-        }
-        let end = root_first(self.cells.as_slice(), self.used, cell);
+        in_use(self.used, cell)?;
+        let end = root(self.written(), cell);
         Ok(end)
     }
 
@@ -56,10 +50,7 @@ impl<L: Leaf> Slate<L> {
         ensures tells { TellsAtom self.old cell result }
         ensures unchanged { self.new ≡ self.old }
     {
-        if self.used <= cell as usize {
-            return Err(Refusal::NotInUse { cell });
-        }
-        let atom = node_at_root(self.cells.as_slice(), self.used, cell);
-        Ok(atom)
+        in_use(self.used, cell)?;
+        Ok(node_at_root(self.written(), cell))
     }
 }

@@ -1,15 +1,24 @@
 // Equating and comparing terms.
 ghost use Rattle.std.specs.Prelude.{◌≡◌, length};
 ghost use Rattle.theory.specs.Calls.{equate as equating, compare as comparing};
-ghost use Rattle.slate.specs.Slates.{in_use, Kept, CarriesOn, accepted_or, same_or};
 
 use crate::input::{all_in_use, long_enough};
 use crate::refusal::Refusal;
 use crate::slate::Slate;
-use cells::unifier::{compare_first, unify_first};
+use cells::unifier::{compare, unify};
 use leaf::kind::Leaf;
 
 impl<L: Leaf> Slate<L> {
+    ghost use Rattle.slate.specs.Slates.{in_use, Kept, CarriesOn, accepted_or, same_or, Admits};
+
+    // Refuses two terms that are not both in use, and a work list that is too short.
+    fn admit(&self, work: usize, left: u16, right: u16) -> Result<(), Refusal>
+        ensures { Admits self.now work left right result }
+    {
+        all_in_use(self.used, &[left, right])?;
+        long_enough(self.cells.len(), work)
+    }
+
     // Makes two terms equal, where some reading allows it.
     pub fn equate(&mut self, work: &mut [u16], left: u16, right: u16) -> Result<(), Refusal>
         ensures kept { Kept self.old self.new
@@ -17,21 +26,12 @@ impl<L: Leaf> Slate<L> {
         ensures carries { CarriesOn self.old self.new
             (equating left right (length work.old)) (accepted_or result) }
     {
-        all_in_use(self.used, &[left, right])?;
-        long_enough(self.cells.len(), work.len())?;
+        self.admit(work.len(), left, right)?;
         let used = self.used;
-        let mut joined = 0;
-        if unify_first(
-            self.cells.as_mut_slice(),
-            used,
-            work,
-            &mut joined,
-            left,
-            right,
-        ) {
-            Ok(())
-        } else {
-            Err(Refusal::Clash)
+        // how many cells were joined is of no use here, so a match is as plain as `map` and `ok_or`
+        match unify(self.cells.as_mut_slice(), used, work, left, right) {
+            Some(_) => Ok(()),
+            None => Err(Refusal::Clash),
         }
     }
 
@@ -43,10 +43,8 @@ impl<L: Leaf> Slate<L> {
             (comparing left right (length work.old)) (same_or result) }
         ensures unaltered { in_use self.new ≡ in_use self.old }
     {
-        all_in_use(self.used, &[left, right])?;
-        long_enough(self.cells.len(), work.len())?;
+        self.admit(work.len(), left, right)?;
         let used = self.used;
-        let equal = compare_first(self.cells.as_mut_slice(), used, work, left, right);
-        Ok(equal)
+        Ok(compare(self.cells.as_mut_slice(), used, work, left, right))
     }
 }

@@ -10,7 +10,6 @@ use crate::limits::{MOST_ARGUMENTS, MOST_CELLS};
 use crate::refusal::Refusal;
 use crate::slate::Slate;
 use cells::cell::{Cell, Content};
-use cells::writes::put;
 use leaf::kind::Leaf;
 
 // The arguments of a node in the first of four places.
@@ -26,6 +25,7 @@ fn packed(args: &[u16]) -> [u16; 4]
 
 impl<L: Leaf> Slate<L> {
     // A wiped slate on the supplied cells.
+    #[tactic(auto, using(crate::proofs::Next::none_sound, theory::proofs::CarriedSittings::wiped))]
     pub fn new(cells: Vec<Cell<L>>) -> Slate<L>
         ensures wiped { Wiped result }
         ensures as_many { supplied result ≡ vec_len cells }
@@ -34,6 +34,7 @@ impl<L: Leaf> Slate<L> {
     }
 
     // Puts every cell out of use.
+    #[tactic(auto, using(crate::proofs::Next::none_sound, theory::proofs::CarriedSittings::wiped))]
     pub fn wipe(&mut self)
         ensures wiped { Wiped self.new }
         ensures as_many { supplied self.new ≡ supplied self.old }
@@ -51,7 +52,7 @@ impl<L: Leaf> Slate<L> {
         if self.cells.len().min(MOST_CELLS) <= used {
             return Err(Refusal::NoCell);
         }
-        put(self.cells.as_mut_slice(), used, content);
+        self.cells[used] = content.into();
         self.used = used + 1;
         Ok(used as u16)
     }

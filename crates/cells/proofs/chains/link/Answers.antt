@@ -2,4 +2,4 @@ use Rattle.cells.proofs.Read.{joined_read}
 use Rattle.cells.proofs.chains.link.Goals as goal
 
 pub returns : goal.returns
-returns g c = joined_read _ _ c.index-cells-i.result c.requires c.index-cells-i.is
+returns g c = joined_read _ _ _ c.requires

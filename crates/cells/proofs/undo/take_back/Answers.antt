@@ -1,30 +1,29 @@
-use Rattle.std.proofs.Common.{◌≡◌, ◌<◌, ◌++◌, length, take, drop, sym, ap, ◌∙◌, subst, subst₂, le_refl, arith, length-take, take_all}
-use Rattle.std.specs.List.{AllByRecursion}
+use Rattle.std.proofs.Common.{◌≡◌, ◌-◌, length, take, ap, ◌∙◌, arith}
+use Rattle.std.proofs.lemmas.List.{length_push, length-reverse}
+use Rattle.std.proofs.lemmas.Iterator.Adapters.{YieldsList-from_rev_slice}
+use Rattle.std.proofs.lemmas.Iterator.Consumers.{YieldsList-turn, YieldsList-end}
 use Rattle.unify.specs.Unify.{clear}
-use Rattle.cells.specs.Cells.{cells_of, AllCounted}
-use Rattle.cells.proofs.Front.{front, front_as_many}
+use Rattle.cells.specs.Cells.{cells_of}
+use Rattle.cells.proofs.Steps.{one_back}
 use Rattle.cells.proofs.undo.take_back.Goals as goal
 
-pub clear-requires : goal.clear-requires
-clear-requires g c =
-    let xs = c.args.cells.now in
-    let ws = c.args.trail.now in
-    let n : c.args.used ≡ length (take c.args.used xs) = omega (arith, length-take c.args.used xs, c.requires.part) in
+pub loop-cell-preserved : goal.loop-cell-preserved
+loop-cell-preserved g c =
+    let at = YieldsList-turn (YieldsList-from_rev_slice c.args.trail.now (cc)) c.loop-cell.yielded _ c.loop-cell.yielded_by _ _
+    c.in-Some.cell c.in-Some.is c.next.ensures.steps in
     record {
-      counted = c.requires.counted;
-      part = omega arith;
-      inside = subst₂ (λ m l. AllByRecursion (λ i. i < m) l) n (sym (take_all (length ws) ws (le_refl (length ws)))) c.requires.inside;
+      counted = c.rejoin.ensures.counted;
+      as_many = c.rejoin.ensures.as_many ∙ c.loop-cell.invariant.as_many;
+      left = ap (λ n. clear (take (length c.args.trail.now - n) c.args.trail.now) (cells_of c.rejoin.new.cells))
+          (length_push c.loop-cell.yielded c.in-Some.cell)
+          ∙ (one_back c.args.trail.now (length c.loop-cell.yielded) c.in-Some.cell.now at c.loop-cell.cells
+          c.rejoin.new.cells c.rejoin.ensures.is ∙ c.loop-cell.invariant.left);
     }
 
-pub returns : goal.returns
-returns g c =
-    let xs = c.args.cells.now in
-    let ws = c.args.trail.now in
-    let e : take c.args.used (c.clear.new.cells ++ drop c.args.used xs) ≡ c.clear.new.cells = front
-    c.args.used xs c.clear.new.cells c.requires.part c.clear.auto.cells in
-    record {
-      is = ap cells_of e ∙ (c.clear.ensures.is
-          ∙ ap (λ l. clear l (cells_of (take c.args.used xs))) (take_all (length ws) ws (le_refl (length ws))));
-      counted = subst AllCounted (sym e) c.clear.ensures.counted;
-      as_many = front_as_many c.args.used xs c.clear.new.cells c.requires.part c.clear.auto.cells;
-    }
+pub returns-clause-is : goal.returns-clause-is
+unfolding clear
+returns-clause-is g c =
+    let end = YieldsList-end (YieldsList-from_rev_slice c.args.trail.now (cc)) c.loop-cell.yielded _
+    c.loop-cell.yielded_by _ _ c.in-None.is c.next.ensures.steps in
+    let none : 0 ≡ length c.args.trail.now - length c.loop-cell.yielded = omega (arith, end.1, length-reverse c.args.trail.now) in
+    ap (λ n. clear (take n c.args.trail.now) (cells_of c.loop-cell.cells)) none ∙ c.loop-cell.invariant.left

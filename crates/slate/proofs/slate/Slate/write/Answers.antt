@@ -1,7 +1,7 @@
-use Rattle.std.proofs.Common.{◌+◌, ◌<◌, min, length, take, vec_items, vec_len, sym, refl, ap, ◌∙◌, subst, arith}
+use Rattle.std.proofs.Common.{◌+◌, ◌<◌, min, length, take, set, vec_items, vec_len, sym, refl, ap, ◌∙◌, subst, arith}
 use base.Stored.{Coded-set}
 use Rattle.cells.specs.Cells.{cells_of, WellFormed}
-use Rattle.slate.proofs.Next.{sound_out, next_cells, next_sound, after_put}
+use Rattle.slate.proofs.Next.{sound_out, next_cells, next_sound}
 use Rattle.slate.proofs.slate.Slate.write.Goals as goal
 
 pub invariant_of-self : goal.invariant_of-self
@@ -18,9 +18,7 @@ invariant_of-self g c =
     record {
       within = omega (arith, room);
       few = omega (arith, room);
-      sound = ∣ subst (λ l. WellFormed (take (s.used + 1) l))
-          (sym (after_put (vec_len s.cells) s.used xs c.as_mut_slice.result.now c.put.new.cells
-          c.args.content s.cells.ok.0 c.as_mut_slice.ensures.value c.put.ensures))
+      sound = ∣ subst (λ d. WellFormed (take (s.used + 1) (set xs s.used d))) (sym c.into.ensures)
           (next_sound xs s.used c.args.content inside (omega (arith, room))
           (sound_out (Coded-set g.row.L.coded) (take s.used xs) s.sound) c.requires.counted
           c.requires.writable) ∣₁;
@@ -39,9 +37,7 @@ returns g c =
     let inside : s.used < length xs = omega (arith, s.cells.ok.0) in (
       refl,
       room,
-      ap (λ l. cells_of (take (s.used + 1) l))
-          (after_put (vec_len s.cells) s.used xs c.as_mut_slice.result.now c.put.new.cells
-          c.args.content s.cells.ok.0 c.as_mut_slice.ensures.value c.put.ensures)
+      ap (λ d. cells_of (take (s.used + 1) (set xs s.used d))) c.into.ensures
           ∙ next_cells xs s.used c.args.content inside,
       refl,
     )
