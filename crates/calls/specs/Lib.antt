@@ -1,3 +1,4 @@
+pub mod AnswerLines
 pub mod Answers
 pub mod Calls
 pub mod Steps

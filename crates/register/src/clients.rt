@@ -1,5 +1,5 @@
 // Three clients, each as the calls that write its run and ask whether it books once.
-use crate::symbols::{ANSWER, BOOKING, BOOKS_ONCE, KEY, LOSS, PLAIN, RUN, SEND, SILENCE};
+use crate::symbols::Symbol;
 use calls::call::Call;
 use leaf::accession_number::AccessionNumber;
 use slate::limits::WORK_PER_CELL;
@@ -50,24 +50,28 @@ impl Client {
         self.write(Call::Leaf(AccessionNumber(number)))
     }
 
-    fn node(&mut self, symbol: u16, args: &[u16]) -> Result<u16, AllocError> {
+    fn node(&mut self, symbol: Symbol, args: &[u16]) -> Result<u16, AllocError> {
+        let symbol = u16::from(symbol);
         let args = args.to_vec(self.heap)?;
         self.write(Call::Node { symbol, args })
     }
 
     fn equate(&mut self, left: u16, right: u16) -> Result<(), AllocError> {
         let work = WORK;
-        self.calls.push(Call::Equate { left, right, work })?;
-        Ok(())
+        Ok(self.calls.push(Call::Equate { left, right, work })?)
     }
 
     // The run that goes on with these events, the last of them first, and then with the rest.
     fn run(&mut self, events: &[u16], rest: u16) -> Result<u16, AllocError> {
-        let mut run = rest;
-        for event in events {
-            run = self.node(RUN, &[*event, run])?;
-        }
-        Ok(run)
+        events
+            .iter()
+            .try_fold(rest, |run, event| self.node(Symbol::Run, &[*event, run]))
+    }
+
+    // The request, sent with the client's key or plain.
+    fn request(&mut self, with: Symbol) -> Result<u16, AllocError> {
+        let with = self.node(with, &[])?;
+        self.node(Symbol::Send, &[with])
     }
 
     // The run in which these events come for ever, the last of them first.
@@ -78,10 +82,16 @@ impl Client {
         Ok(run)
     }
 
+    // The run in which nothing happens.
+    fn silent(&mut self) -> Result<u16, AllocError> {
+        let silence = self.node(Symbol::Silence, &[])?;
+        self.for_ever(&[silence])
+    }
+
     // Asks whether the run books once. The number is open, and stands in the cell before the goal.
     fn ask(mut self, run: u16) -> Result<Vec<Call<AccessionNumber>>, AllocError> {
         let number = self.open()?;
-        let goal = self.node(BOOKS_ONCE, &[run, number])?;
+        let goal = self.node(Symbol::BooksOnce, &[run, number])?;
         let goals = [goal].to_vec(self.heap)?;
         self.calls.push(Call::Solve {
             goals,
@@ -98,14 +108,12 @@ impl Client {
 // Sends with its key until the answer comes, and is silent for ever. The first request is lost, then the answer to the second.
 pub fn retrying(heap: Global) -> Result<Vec<Call<AccessionNumber>>, AllocError> {
     let mut client = Client::new(heap);
-    let silence = client.node(SILENCE, &[])?;
-    let silent = client.for_ever(&[silence])?;
-    let key = client.node(KEY, &[])?;
-    let send = client.node(SEND, &[key])?;
-    let loss = client.node(LOSS, &[])?;
+    let silent = client.silent()?;
+    let send = client.request(Symbol::Key)?;
+    let loss = client.node(Symbol::Loss, &[])?;
     let number = client.number(17)?;
-    let booking = client.node(BOOKING, &[number])?;
-    let answer = client.node(ANSWER, &[number])?;
+    let booking = client.node(Symbol::Booking, &[number])?;
+    let answer = client.node(Symbol::Answer, &[number])?;
     let run = client.run(&[answer, send, loss, booking, send, loss, send], silent)?;
     client.ask(run)
 }
@@ -113,16 +121,14 @@ pub fn retrying(heap: Global) -> Result<Vec<Call<AccessionNumber>>, AllocError> 
 // Sends again without a key when the answer is lost, so that the register books a second number.
 pub fn resending(heap: Global) -> Result<Vec<Call<AccessionNumber>>, AllocError> {
     let mut client = Client::new(heap);
-    let silence = client.node(SILENCE, &[])?;
-    let silent = client.for_ever(&[silence])?;
-    let plain = client.node(PLAIN, &[])?;
-    let send = client.node(SEND, &[plain])?;
-    let loss = client.node(LOSS, &[])?;
+    let silent = client.silent()?;
+    let send = client.request(Symbol::Plain)?;
+    let loss = client.node(Symbol::Loss, &[])?;
     let first = client.number(17)?;
     let second = client.number(18)?;
-    let first_booking = client.node(BOOKING, &[first])?;
-    let second_booking = client.node(BOOKING, &[second])?;
-    let answer = client.node(ANSWER, &[second])?;
+    let first_booking = client.node(Symbol::Booking, &[first])?;
+    let second_booking = client.node(Symbol::Booking, &[second])?;
+    let answer = client.node(Symbol::Answer, &[second])?;
     let run = client.run(
         &[answer, second_booking, send, loss, first_booking, send],
         silent,
@@ -133,9 +139,8 @@ pub fn resending(heap: Global) -> Result<Vec<Call<AccessionNumber>>, AllocError>
 // Sends with its key for ever, and every request is lost.
 pub fn unheard(heap: Global) -> Result<Vec<Call<AccessionNumber>>, AllocError> {
     let mut client = Client::new(heap);
-    let key = client.node(KEY, &[])?;
-    let send = client.node(SEND, &[key])?;
-    let loss = client.node(LOSS, &[])?;
+    let send = client.request(Symbol::Key)?;
+    let loss = client.node(Symbol::Loss, &[])?;
     let run = client.for_ever(&[loss, send])?;
     client.ask(run)
 }

@@ -1,5 +1,7 @@
 // The rules for runs, as a table.
-use crate::symbols::{ANSWER, BOOKING, BOOKS_NO_MORE, BOOKS_ONCE, LOSS, RUN, SEND, SILENCE};
+ghost use Rattle.std.specs.Prelude.{◌≤◌, length};
+
+use crate::symbols::Symbol;
 use book::entry::{CellNumbers, EntryCell, EntryKind, Node};
 use book::table::Row;
 use leaf::accession_number::AccessionNumber;
@@ -11,47 +13,47 @@ type RuleCell = EntryCell<AccessionNumber>;
 // The first event of a run, and what then has to hold of the rest for the rule to hold of the whole.
 #[derive(Clone, Copy)]
 struct Rule {
-    whole: u16,
-    event: u16,
-    rest: u16,
+    whole: Symbol,
+    event: Symbol,
+    rest: Symbol,
 }
 
 // To book a number is to be come to; from then on no rule lets another be booked.
 const RULES: [Rule; 7] = [
     Rule {
-        whole: BOOKS_ONCE,
-        event: SEND,
-        rest: BOOKS_ONCE,
+        whole: Symbol::BooksOnce,
+        event: Symbol::Send,
+        rest: Symbol::BooksOnce,
     },
     Rule {
-        whole: BOOKS_ONCE,
-        event: LOSS,
-        rest: BOOKS_ONCE,
+        whole: Symbol::BooksOnce,
+        event: Symbol::Loss,
+        rest: Symbol::BooksOnce,
     },
     Rule {
-        whole: BOOKS_ONCE,
-        event: BOOKING,
-        rest: BOOKS_NO_MORE,
+        whole: Symbol::BooksOnce,
+        event: Symbol::Booking,
+        rest: Symbol::BooksNoMore,
     },
     Rule {
-        whole: BOOKS_NO_MORE,
-        event: SEND,
-        rest: BOOKS_NO_MORE,
+        whole: Symbol::BooksNoMore,
+        event: Symbol::Send,
+        rest: Symbol::BooksNoMore,
     },
     Rule {
-        whole: BOOKS_NO_MORE,
-        event: LOSS,
-        rest: BOOKS_NO_MORE,
+        whole: Symbol::BooksNoMore,
+        event: Symbol::Loss,
+        rest: Symbol::BooksNoMore,
     },
     Rule {
-        whole: BOOKS_NO_MORE,
-        event: ANSWER,
-        rest: BOOKS_NO_MORE,
+        whole: Symbol::BooksNoMore,
+        event: Symbol::Answer,
+        rest: Symbol::BooksNoMore,
     },
     Rule {
-        whole: BOOKS_NO_MORE,
-        event: SILENCE,
-        rest: BOOKS_NO_MORE,
+        whole: Symbol::BooksNoMore,
+        event: Symbol::Silence,
+        rest: Symbol::BooksNoMore,
     },
 ];
 
@@ -62,96 +64,70 @@ pub struct RuleTable {
     pub cells: Vec<RuleCell>,
 }
 
-// A node with no argument.
-fn constant(symbol: u16) -> RuleCell {
+// A node over these cells.
+fn node(symbol: Symbol, args: &[u8]) -> RuleCell
+    requires { length args.now ≤ 4 }
+{
     EntryCell::Node(Node {
-        symbol,
-        args: CellNumbers {
-            len: 0,
-            cells: [0; 4],
-        },
-    })
-}
-
-// A node over one cell.
-fn unary(symbol: u16, arg: u8) -> RuleCell {
-    EntryCell::Node(Node {
-        symbol,
-        args: CellNumbers {
-            len: 1,
-            cells: [arg, 0, 0, 0],
-        },
-    })
-}
-
-// A node over two cells.
-fn binary(symbol: u16, left: u8, right: u8) -> RuleCell {
-    EntryCell::Node(Node {
-        symbol,
-        args: CellNumbers {
-            len: 2,
-            cells: [left, right, 0, 0],
-        },
+        symbol: u16::from(symbol),
+        args: CellNumbers::try_from(args).unwrap(),
     })
 }
 
 // The event, of the number in cell 1 or the key in cell 2.
-fn event(symbol: u16) -> RuleCell {
+fn event(symbol: Symbol) -> RuleCell {
     match symbol {
-        SEND => unary(SEND, 2),
-        BOOKING => unary(BOOKING, 1),
-        ANSWER => unary(ANSWER, 1),
-        _ => constant(symbol),
+        Symbol::Send => node(symbol, &[2]),
+        Symbol::Booking | Symbol::Answer => node(symbol, &[1]),
+        _ => node(symbol, &[]),
     }
 }
 
 impl RuleTable {
-    // The co-fact: a run may be taken to book no more where it comes round to itself. That it books at all has no co-fact.
-    fn add_cofact(&mut self) -> Result<(), AllocError> {
+    // One more entry, of its own cells.
+    fn add(
+        &mut self,
+        kind: EntryKind,
+        own: &[RuleCell],
+        head: u8,
+        body: &[u8],
+    ) -> Result<(), AllocError>
+        requires { length body.now ≤ 8 }
+    {
         let first = self.cells.len();
-        let own = [
-            EntryCell::Variable,
-            EntryCell::Variable,
-            binary(BOOKS_NO_MORE, 0, 1),
-        ];
-        self.cells.extend_from_slice(&own)?;
+        self.cells.extend_from_slice(own)?;
         self.rows.push(Row {
-            kind: EntryKind::CoFact,
+            kind,
             first,
-            cells: 3,
-            head: 2,
-            body: CellNumbers {
-                len: 0,
-                cells: [0; 8],
-            },
+            cells: own.len(),
+            head,
+            body: CellNumbers::try_from(body).unwrap(),
         })?;
         Ok(())
     }
 
+    // The co-fact: a run may be taken to book no more where it comes round to itself. That it books at all has no co-fact.
+    fn add_cofact(&mut self) -> Result<(), AllocError> {
+        let own = [
+            EntryCell::Variable,
+            EntryCell::Variable,
+            node(Symbol::BooksNoMore, &[0, 1]),
+        ];
+        self.add(EntryKind::CoFact, &own, 2, &[])
+    }
+
     // The clause of a rule. Cell 0 is the rest of the run, cell 1 the number, and cell 2 a key.
     fn add_clause(&mut self, rule: Rule) -> Result<(), AllocError> {
-        let first = self.cells.len();
         let own = [
             EntryCell::Variable,
             EntryCell::Variable,
             EntryCell::Variable,
             event(rule.event),
-            binary(RUN, 3, 0),
-            binary(rule.whole, 4, 1),
-            binary(rule.rest, 0, 1),
+            node(Symbol::Run, &[3, 0]),
+            node(rule.whole, &[4, 1]),
+            node(rule.rest, &[0, 1]),
         ];
-        self.cells.extend_from_slice(&own)?;
-        self.rows.push(Row {
-            kind: EntryKind::Clause,
-            first,
-            cells: 7,
-            head: 5,
-            body: CellNumbers {
-                len: 1,
-                cells: [6, 0, 0, 0, 0, 0, 0, 0],
-            },
-        })?;
-        Ok(())
+        self.add(EntryKind::Clause, &own, 5, &[6])
     }
 }
 

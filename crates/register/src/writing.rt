@@ -1,11 +1,12 @@
 // Books written as bytes of their own.
 ghost use Rattle.std.specs.Prelude.{◌≡◌, IfOk, None};
 ghost use Rattle.form.specs.Meanings.{meaning};
+ghost use Rattle.register.specs.declared.writing.WritingError.TheVariants as error;
 
 use book::interface::Book;
 use leaf::kind::WireLeaf;
 use std::alloc::{AllocError, Global};
-use wire::writer::write;
+use wire::writer::{WriteRefusal, write};
 
 // The most bytes that a book may take here.
 const MOST_BYTES: usize = 512;
@@ -18,8 +19,18 @@ pub enum WritingError {
 }
 
 impl From<AllocError> for WritingError {
+    ghost from_gives = { λ _ r. r ≡ error.NoMemory };
+
     fn from(_e: AllocError) -> WritingError {
         WritingError::NoMemory
+    }
+}
+
+impl From<WriteRefusal> for WritingError {
+    ghost from_gives = { λ _ r. r ≡ error.TooLong };
+
+    fn from(_e: WriteRefusal) -> WritingError {
+        WritingError::TooLong
     }
 }
 
@@ -27,9 +38,8 @@ impl From<AllocError> for WritingError {
 pub fn form_bytes<L: WireLeaf, B: Book<L>>(heap: Global, book: &B) -> Result<Vec<u8>, WritingError>
     ensures { IfOk result (λ v. meaning L.WireLeaf.wide L.WireLeaf.reading v.items ≡ record { entries = B.Book.entries book.now; first_fault = None }) }
 {
-    let mut output = [0; MOST_BYTES];
-    let Ok(count) = write::<L, B>(book, &mut output) else {
-        return Err(WritingError::TooLong);
-    };
-    Ok(Vec::from_slice(heap, &output[0..count])?)
+    let mut bytes = vec![in heap; 0; MOST_BYTES]?;
+    let count = write::<L, B>(book, bytes.as_mut_slice())?;
+    bytes.truncate(count);
+    Ok(bytes)
 }

@@ -1,14 +1,19 @@
--- The largest of some numbers, with one number more at the end.
-use Rattle.std.proofs.Common.{◌≡◌, ℕ, zero, suc, ◌+◌, ◌<◌, max, List, [], ◌∷◌, length, get_or, take, sym, refl, ap, ◌∙◌, le_of_suc-le-suc, not-suc-le-zero, add-one, arith}
+-- The largest of some lengths, as the library's words have it.
+use Rattle.std.proofs.Common.{◌≡◌, ℕ, max, List, [], ◌∷◌, map, Option, refl, ap, ◌∙◌, sym, arith}
+use Rattle.std.proofs.lemmas.Iterator.Adapters.{option_map_id}
+use Rattle.std.specs.List.{fold, reduce}
+use Rattle.std.specs.Option.{option_map, unwrap_or}
 use Rattle.script.specs.Lengths.{largest}
 
 module _ {A : Type 0} (f : A → ℕ) where
-  largest_from : (xs : List A) (i : ℕ) (d : A) → i < length xs
-      → largest f (take (suc i) xs) ≡ max (f (get_or xs i d)) (largest f (take i xs))
-  largest_from [] i d inside = absurd (not-suc-le-zero inside)
-  largest_from (x ∷ xs) zero d inside = refl
-  largest_from (x ∷ xs) (suc i) d inside = omega (arith, largest_from xs i d (le_of_suc-le-suc inside))
+  folded : (xs : List A) (n : ℕ) → fold max n (map f xs) ≡ max n (largest f xs)
+  folded [] n = omega arith
+  folded (x ∷ xs) n = omega (arith, folded xs (max n (f x)))
 
-  pub one_more_largest : (xs : List A) (i : ℕ) (d : A) → i < length xs
-      → max (f (get_or xs i d)) (largest f (take i xs)) ≡ largest f (take (i + 1) xs)
-  one_more_largest xs i d inside = sym (largest_from xs i d inside) ∙ ap (λ k. largest f (take k xs)) (sym (add-one i))
+  of_reduced : (xs : List A) → unwrap_or (reduce max (map f xs)) 0 ≡ largest f xs
+  of_reduced [] = refl
+  of_reduced (x ∷ xs) = folded xs (f x)
+
+  -- the largest that is found among the lengths, or 0
+  pub largest_found : (xs : List A) (r : Option ℕ) → option_map (λ x. x) r ≡ reduce max (map f xs) → unwrap_or r 0 ≡ largest f xs
+  largest_found xs r found = ap (λ o. unwrap_or o 0) (sym (option_map_id r) ∙ found) ∙ of_reduced xs

@@ -1,4 +1,2 @@
-pub mod Cutting
 pub mod Digits
 pub mod Largest
-pub mod Steps

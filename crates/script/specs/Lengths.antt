@@ -1,5 +1,7 @@
 -- The lengths of the lists that calls are lent.
-use Rattle.std.specs.Prelude.{ℕ, max, List, [], ◌∷◌}
+use Rattle.std.specs.Prelude.{◌≡◌, ℕ, max, List, [], ◌∷◌}
+use Rattle.std.specs.Borrow.{Bor}
+use Rattle.std.specs.Fn.{Shared, FnReturnsAt}
 use Rattle.calls.specs.declared.call.Call.{Call}
 use Rattle.calls.specs.declared.call.Call.TheVariants.{Open, Leaf, Node, Equate, Compare, Solve, Check}
 
@@ -7,6 +9,10 @@ use Rattle.calls.specs.declared.call.Call.TheVariants.{Open, Leaf, Node, Equate,
 abbrev pub largest : {A : Type 0} → (A → ℕ) → List A → ℕ
 largest f [] = 0
 largest f (x ∷ xs) = max (f x) (largest f xs)
+
+-- whatever key a function gives each thing, the number found is the largest of these keys
+abbrev pub Finds : {F A : Type 0} → Shared F (Bor A × Unit {0}) ℕ → F → List A → ℕ → Type 0
+Finds {F} {A} g f xs n = (key : A → ℕ) → ((x : A) (k : ℕ) → FnReturnsAt g f x k → k ≡ key x) → n ≡ largest key xs
 
 -- the length of the work list that a call is lent
 abbrev pub work_of : {L : Type 0} → Call L → ℕ

@@ -1,4 +1,3 @@
-pub mod AnswerLines
 pub mod Faults
 pub mod Lengths
 pub mod Messages

@@ -3,7 +3,11 @@ use Rattle.std.specs.Prelude.{ℕ, List, ◌++◌, codes, decimal}
 use Rattle.script.specs.declared.fault.ScriptError.{ScriptError}
 use Rattle.script.specs.declared.fault.ScriptError.TheVariants.{Line, NoMemory}
 
+-- why a script cannot be read
+abbrev pub text_of_error : ScriptError → List ℕ
+text_of_error (Line number) = codes "line " ++ (decimal number ++ codes " is not a call")
+text_of_error NoMemory = codes "out of memory"
+
 -- the line that names the file, and says why it cannot be read
 abbrev pub script_says : List ℕ → ScriptError → List ℕ
-script_says file (Line number) = file ++ (codes ": line " ++ (decimal number ++ codes " is not a call\n"))
-script_says file NoMemory = file ++ codes ": out of memory\n"
+script_says file e = file ++ (codes ": " ++ (text_of_error e ++ codes "\n"))

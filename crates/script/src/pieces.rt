@@ -7,15 +7,14 @@ ghost use Rattle.std.specs.Iterator.{at_most};
 pub fn cut(text: &[u8], at: u8) -> (&[u8], Option<&[u8]>)
     ensures { CutAt at text.now result.0 result.1 }
 {
-    for (i, byte) in text.iter().enumerate() {
-        if *byte == at {
-            return (&text[0..i], Some(&text[i + 1..]));
-        }
+    match text.iter().position(|byte| *byte == at) {
+        Some(i) => (&text[..i], Some(&text[i + 1..])),
+        None => (text, None),
     }
-    (text, None)
 }
 
-// The pieces of a text that are still to come, in order. There is one more than there are bytes to cut at.
+// The pieces of a text that are still to come, in order. There is one more than there are bytes to cut at. A slice's
+// own `split` has its closure in its type, so all that hold or take words would be generic over it.
 #[derive(Drop)]
 pub struct Pieces<'a> {
     rest: Option<&'a [u8]>,

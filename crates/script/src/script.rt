@@ -49,18 +49,14 @@ pub fn parse(heap: Global, text: &[u8]) -> Result<Script, ScriptError> {
         lent: Lent::first(0),
         calls: Vec::new(heap),
     };
-    let mut number: usize = 0;
-    for line in Pieces::of(text, b'\n') {
-        number = number.saturating_add(1);
-        if let Err(fault) = draft.take(heap, line) {
-            return Err(fault.at(number));
-        }
+    for (index, line) in Pieces::of(text, b'\n').enumerate() {
+        draft
+            .take(heap, line)
+            .map_err(|fault| fault.at(index.saturating_add(1)))?;
     }
-    match draft.cells {
-        Some(cells) => Ok(Script {
-            cells,
-            calls: draft.calls,
-        }),
-        None => Err(ScriptError::Line { number }),
-    }
+    let Draft { cells, calls, .. } = draft;
+    let cells = cells.ok_or_else(|| ScriptError::Line {
+        number: Pieces::of(text, b'\n').count(),
+    })?;
+    Ok(Script { cells, calls })
 }

@@ -1,10 +1,7 @@
 // One line of a script.
 use crate::fault::LineFault;
 use crate::lent::Lent;
-use crate::pieces::Pieces;
-use crate::words::{
-    cells, cells_to_colon, end, next_length, next_number, next_short_number, steps,
-};
+use crate::words::Words;
 use calls::call::Call;
 use leaf::accession_number::AccessionNumber;
 use std::alloc::Global;
@@ -20,109 +17,87 @@ pub enum Statement {
 
 // The line is empty or a comment.
 pub fn is_passed_over(line: &[u8]) -> bool {
-    match line {
-        [] => true,
-        [first, ..] => *first == b'#',
-    }
+    matches!(line, [] | [b'#', ..])
 }
 
 // What the line says, where calls are lent lists of these lengths.
 pub fn read_line(heap: Global, line: &[u8], lent: Lent) -> Result<Statement, LineFault> {
-    let mut words = Pieces::of(line, b' ');
-    let Some(name) = words.next() else {
-        return Err(LineFault::NotOfTheForm);
-    };
-    match name {
+    let mut words = Words::of(heap, line);
+    match words.next()? {
         b"slate" => Ok(Statement::Slate {
-            cells: length(words)?,
+            cells: words.only_length()?,
         }),
         b"work" => Ok(Statement::Work {
-            length: length(words)?,
+            length: words.only_length()?,
         }),
         b"frames" => Ok(Statement::Frames {
-            length: length(words)?,
+            length: words.only_length()?,
         }),
-        _ => Ok(Statement::Call(call(heap, name, words, lent)?)),
+        name => Ok(Statement::Call(call(name, words, lent)?)),
     }
 }
 
-// One length and no more.
-fn length(mut words: Pieces) -> Result<usize, LineFault> {
-    let length = next_length(&mut words)?;
-    end(words)?;
-    Ok(length)
-}
-
-// The call of that name, with the words behind it.
-fn call(
-    heap: Global,
-    name: &[u8],
-    words: Pieces,
-    lent: Lent,
-) -> Result<Call<AccessionNumber>, LineFault> {
+// The call of that name, with the words behind it. Names come as text, so a `match` tells them apart.
+fn call(name: &[u8], words: Words, lent: Lent) -> Result<Call<AccessionNumber>, LineFault> {
     match name {
         b"open" => open(words),
         b"leaf" => leaf(words),
-        b"node" => node(heap, words),
-        b"equate" => equate(words, lent.work),
-        b"compare" => compare(words, lent.work),
-        b"solve" => solve(heap, words, lent),
-        b"check" => check(heap, words, lent),
+        b"node" => node(words),
+        b"equate" => {
+            let (left, right) = words.two_cells()?;
+            let work = lent.work;
+            Ok(Call::Equate { left, right, work })
+        }
+        b"compare" => {
+            let (left, right) = words.two_cells()?;
+            let work = lent.work;
+            Ok(Call::Compare { left, right, work })
+        }
+        b"solve" => solve(words, lent),
+        b"check" => check(words, lent),
         _ => Err(LineFault::NotOfTheForm),
     }
 }
 
-fn open(words: Pieces) -> Result<Call<AccessionNumber>, LineFault> {
-    end(words)?;
+fn open(words: Words) -> Result<Call<AccessionNumber>, LineFault> {
+    words.end()?;
     Ok(Call::Open)
 }
 
-fn leaf(mut words: Pieces) -> Result<Call<AccessionNumber>, LineFault> {
-    let value = next_number(&mut words)?;
-    end(words)?;
+fn leaf(mut words: Words) -> Result<Call<AccessionNumber>, LineFault> {
+    let value = words.number()?;
+    words.end()?;
     Ok(Call::Leaf(AccessionNumber(value)))
 }
 
-fn node(heap: Global, mut words: Pieces) -> Result<Call<AccessionNumber>, LineFault> {
-    let symbol = next_short_number(&mut words)?;
-    let args = cells(heap, words)?;
+fn node(mut words: Words) -> Result<Call<AccessionNumber>, LineFault> {
+    let symbol = words.number()?;
+    let args = words.cells()?;
     Ok(Call::Node { symbol, args })
 }
 
-fn equate(mut words: Pieces, work: usize) -> Result<Call<AccessionNumber>, LineFault> {
-    let left = next_short_number(&mut words)?;
-    let right = next_short_number(&mut words)?;
-    end(words)?;
-    Ok(Call::Equate { left, right, work })
-}
-
-fn compare(mut words: Pieces, work: usize) -> Result<Call<AccessionNumber>, LineFault> {
-    let left = next_short_number(&mut words)?;
-    let right = next_short_number(&mut words)?;
-    end(words)?;
-    Ok(Call::Compare { left, right, work })
-}
-
-fn solve(heap: Global, mut words: Pieces, lent: Lent) -> Result<Call<AccessionNumber>, LineFault> {
-    let budget = next_number(&mut words)?;
-    let room = next_length(&mut words)?;
-    let goals = cells(heap, words)?;
+fn solve(mut words: Words, lent: Lent) -> Result<Call<AccessionNumber>, LineFault> {
+    let budget = words.number()?;
+    let room = words.length()?;
+    let goals = words.cells()?;
+    let Lent { work, frames } = lent;
     Ok(Call::Solve {
         goals,
         budget,
         room,
-        work: lent.work,
-        frames: lent.frames,
+        work,
+        frames,
     })
 }
 
-fn check(heap: Global, mut words: Pieces, lent: Lent) -> Result<Call<AccessionNumber>, LineFault> {
-    let goals = cells_to_colon(heap, &mut words)?;
-    let steps = steps(heap, words)?;
+fn check(mut words: Words, lent: Lent) -> Result<Call<AccessionNumber>, LineFault> {
+    let goals = words.cells_to_colon()?;
+    let steps = words.steps()?;
+    let Lent { work, frames } = lent;
     Ok(Call::Check {
         goals,
         steps,
-        work: lent.work,
-        frames: lent.frames,
+        work,
+        frames,
     })
 }

@@ -1,5 +1,5 @@
 // The words of a line, read as what a call takes.
-ghost use Rattle.std.specs.Prelude.{◌≡◌, IfOk};
+ghost use Rattle.std.specs.Prelude.{IfOk, Ok};
 ghost use Rattle.script.specs.Numbers.{IsNumber, value_after};
 
 use crate::fault::LineFault;
@@ -7,25 +7,17 @@ use crate::number::decimal;
 use crate::pieces::{Pieces, cut};
 use calls::step::Step;
 use std::alloc::Global;
+use std::num::TryFromIntError;
 
 // The longest list that can be asked for, and the largest slate.
 const MOST_LENGTH: u32 = 65536;
 
-// The word as a number up to the largest that is allowed.
-fn number(word: &[u8], most: u32) -> Result<u32, LineFault>
-    ensures { IfOk result (λ n. IsNumber most word.now × (n ≡ value_after 0 word.now)) }
+// The word as a number that its type can hold.
+fn number<N: TryFrom<u32, Error = TryFromIntError>>(word: &[u8]) -> Result<N, LineFault>
+    ensures { IfOk result (λ n. IsNumber 4294967295 word.now × N.TryFrom.try_from_gives (value_after 0 word.now) (Ok n)) }
 {
-    match decimal(word, most) {
-        Some(value) => Ok(value),
-        None => Err(LineFault::NotOfTheForm),
-    }
-}
-
-// The word as the number of a cell, a symbol, an entry or a step.
-fn short_number(word: &[u8]) -> Result<u16, LineFault>
-    ensures { IfOk result (λ n. IsNumber 65535 word.now × (n ≡ value_after 0 word.now)) }
-{
-    Ok(number(word, 65535)? as u16)
+    let value = decimal(word, u32::MAX).ok_or(LineFault::NotOfTheForm)?;
+    Ok(N::try_from(value)?)
 }
 
 // The word as a step: its mode, a comma and its number.
@@ -34,68 +26,83 @@ fn read_step(word: &[u8]) -> Result<Step, LineFault> {
         return Err(LineFault::NotOfTheForm);
     };
     Ok(Step {
-        mode: number(mode, 255)? as u8,
-        number: short_number(rest)?,
+        mode: number(mode)?,
+        number: number(rest)?,
     })
 }
 
-// The next word, which must be there.
-fn next_word<'a>(words: &mut Pieces<'a>) -> Result<&'a [u8], LineFault> {
-    match words.next() {
-        Some(word) => Ok(word),
-        None => Err(LineFault::NotOfTheForm),
+// The words of a line that are still to be read, and the heap that lists are made on.
+#[derive(Drop)]
+pub struct Words<'a> {
+    rest: Pieces<'a>,
+    heap: Global,
+}
+
+impl<'a> Words<'a> {
+    // The words of the line.
+    pub fn of(heap: Global, line: &'a [u8]) -> Words<'a> {
+        let rest = Pieces::of(line, b' ');
+        Words { rest, heap }
     }
-}
 
-// The next word as a leaf's value or a budget.
-pub fn next_number(words: &mut Pieces) -> Result<u32, LineFault> {
-    number(next_word(words)?, u32::MAX)
-}
-
-// The next word as the number of a cell or a symbol.
-pub fn next_short_number(words: &mut Pieces) -> Result<u16, LineFault> {
-    short_number(next_word(words)?)
-}
-
-// The next word as the length of a list, or the number of a slate's cells.
-pub fn next_length(words: &mut Pieces) -> Result<usize, LineFault> {
-    Ok(number(next_word(words)?, MOST_LENGTH)? as usize)
-}
-
-// No word is left.
-pub fn end(mut words: Pieces) -> Result<(), LineFault> {
-    match words.next() {
-        Some(_) => Err(LineFault::NotOfTheForm),
-        None => Ok(()),
+    // The next word, which must be there.
+    pub fn next(&mut self) -> Result<&'a [u8], LineFault> {
+        self.rest.next().ok_or(LineFault::NotOfTheForm)
     }
-}
 
-// The words that are left, as cells.
-pub fn cells(heap: Global, words: Pieces) -> Result<Vec<u16>, LineFault> {
-    let mut cells = Vec::new(heap);
-    for word in words {
-        cells.push(short_number(word)?)?;
+    // The next word as a number that its type can hold.
+    pub fn number<N: TryFrom<u32, Error = TryFromIntError>>(&mut self) -> Result<N, LineFault> {
+        number(self.next()?)
     }
-    Ok(cells)
-}
 
-// The words before a colon, as cells.
-pub fn cells_to_colon(heap: Global, words: &mut Pieces) -> Result<Vec<u16>, LineFault> {
-    let mut cells = Vec::new(heap);
-    while let Some(word) = words.next() {
-        if word == b":".as_slice() {
-            return Ok(cells);
+    // The next word as the length of a list, or the number of a slate's cells.
+    pub fn length(&mut self) -> Result<usize, LineFault> {
+        let length = decimal(self.next()?, MOST_LENGTH).ok_or(LineFault::NotOfTheForm)?;
+        Ok(length as usize)
+    }
+
+    // No word is left. Here a word is the fault, and `ok_or` makes one of its absence, so it stays a match.
+    pub fn end(mut self) -> Result<(), LineFault> {
+        match self.rest.next() {
+            Some(_) => Err(LineFault::NotOfTheForm),
+            None => Ok(()),
         }
-        cells.push(short_number(word)?)?;
     }
-    Err(LineFault::NotOfTheForm)
-}
 
-// The words that are left, as steps.
-pub fn steps(heap: Global, words: Pieces) -> Result<Vec<Step>, LineFault> {
-    let mut steps = Vec::new(heap);
-    for word in words {
-        steps.push(read_step(word)?)?;
+    // One length and no more.
+    pub fn only_length(mut self) -> Result<usize, LineFault> {
+        let length = self.length()?;
+        self.end()?;
+        Ok(length)
     }
-    Ok(steps)
+
+    // Two cells and no more.
+    pub fn two_cells(mut self) -> Result<(u16, u16), LineFault> {
+        let left = self.number()?;
+        let right = self.number()?;
+        self.end()?;
+        Ok((left, right))
+    }
+
+    // The words that are left, as cells.
+    pub fn cells(self) -> Result<Vec<u16>, LineFault> {
+        self.rest.map(number::<u16>).try_collect(self.heap)
+    }
+
+    // The words before a colon, as cells.
+    pub fn cells_to_colon(&mut self) -> Result<Vec<u16>, LineFault> {
+        let mut cells = Vec::new(self.heap);
+        while let Some(word) = self.rest.next() {
+            match word {
+                b":" => return Ok(cells),
+                _ => cells.push(number(word)?)?,
+            }
+        }
+        Err(LineFault::NotOfTheForm)
+    }
+
+    // The words that are left, as steps.
+    pub fn steps(self) -> Result<Vec<Step>, LineFault> {
+        self.rest.map(read_step).try_collect(self.heap)
+    }
 }

@@ -5,7 +5,7 @@ use script::answer_line::answer_line;
 use script::fault::ScriptError;
 use script::message::{book_message, script_message};
 use script::script::parse;
-use slate::refusal::Refusal;
+use slate::refusal::{Refusal, Rule};
 use std::alloc::Global;
 use std::process::Abort;
 use std::test::Fail;
@@ -36,10 +36,9 @@ fn fails_at(rt: &impl Abort, heap: Global, text: &[u8], number: usize) -> Result
 
 // The error of a text that is no script.
 fn error_of(heap: Global, text: &[u8]) -> Result<ScriptError, Fail> {
-    match parse(heap, text) {
-        Ok(_) => Err(Fail::new("the script was read")),
-        Err(error) => Ok(error),
-    }
+    parse(heap, text)
+        .err()
+        .ok_or_else(|| Fail::new("the script was read"))
 }
 
 // The answer is printed as that line.
@@ -268,7 +267,7 @@ fn refusals_are_printed(rt: HostRuntime) -> Result<(), Fail> {
         (
             Refusal::Unlawful {
                 step: 4096,
-                rule: 7,
+                rule: Rule::Reading,
             },
             "refused 6 step 4096 rule 7",
         ),

@@ -1,4 +1,4 @@
-use Rattle.std.proofs.Common.{ap, ◌∙◌}
+use Rattle.std.proofs.Common.{ap, ◌∙◌, arith}
 use Rattle.form.specs.Forms.{book_form}
 use Rattle.form.specs.Meanings.{meaning}
 use Rattle.form.proofs.ReadBack.{read_back}
@@ -11,6 +11,7 @@ returns g c =
     let leaf = g.L.WireLeaf in
     let laws = g.met.L.WireLeaf in
     let es = g.B.Book.entries c.args.book.now in
-    let wrote = c.in-Ok.ensures in
-    ap (meaning leaf.wide leaf.reading) (c.in_ok-from_slice.ensures.items ∙ filled _ _ (book_form leaf.written es) c.in-Ok.count wrote.1)
-    ∙ read_back leaf.wide leaf.written leaf.reading laws.narrow.1 laws.even laws.rereads es (kept (g.B.Book.rules c.args.book.now)) wrote.0
+    let wrote = c.in_ok-count.ensures in
+    ap (meaning leaf.wide leaf.reading) (c.truncate.ensures.items
+    ∙ filled _ _ (book_form leaf.written es) _ c.in_ok-count.count c.in_ok-bytes.bytes.len wrote.1 (omega (arith, wrote.1.fits, wrote.1.count)))
+    ∙ read_back leaf.wide leaf.written leaf.reading laws.narrow.1 laws.even laws.rereads es (kept (g.met.B.Book.rules c.args.book.now)) wrote.0
