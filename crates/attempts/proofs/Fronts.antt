@@ -1,9 +1,8 @@
 -- The first of the first cells, and what is written behind the front of a list.
-use Rattle.std.proofs.Common.{◌≡◌, ℕ, ◌+◌, ◌-◌, ◌≤◌, List, [], ◌∷◌, ◌++◌, length, take, drop, sym, ap, ◌∙◌, subst, le_refl, suc-add, zero-add, arith}
+use Rattle.std.proofs.Common.{◌≡◌, ℕ, ◌+◌, ◌-◌, ◌≤◌, List, [], ◌∷◌, ◌++◌, length, take, drop, sym, ap, ◌∙◌, subst, suc-add, zero-add, arith}
 use borrow.Rule.Slice.PartMut.{put_mid}
 use Rattle.std.proofs.lemmas.List.{length-append, length-take, length-drop, length-take-le, take-take, take-map, take-append-le}
 use Rattle.std.proofs.ByRecursion.{All-take}
-use Rattle.std.proofs.lemmas.Slice.{take-put_mid_below}
 use Rattle.cells.specs.declared.cell.Cell.{Cell}
 use Rattle.cells.specs.Cells.{cell_of, cells_of, Counted, AllCounted}
 use Rattle.cells.proofs.Steps.{number}
@@ -28,9 +27,6 @@ take_past (x ∷ p) q n = ap (λ k. take k (x ∷ (p ++ q))) (suc-add (length p)
 module _ {X : Type 0} (a : ℕ) (xs ys : List X) (h : a ≤ length xs) where
   abbrev pub behind : List X
   behind = put_mid a (length xs - a) xs ys
-
-  pub behind_same : take a behind ≡ take a xs
-  behind_same = take-put_mid_below a (length xs - a) xs ys a (le_refl a) h
 
   pub behind_more : (n : ℕ) → n ≤ length ys → take (a + n) behind ≡ take a xs ++ take n ys
   behind_more n l =

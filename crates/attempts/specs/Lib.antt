@@ -1,1 +1,2 @@
 pub mod Attempts
+pub mod Lists

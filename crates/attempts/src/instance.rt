@@ -1,15 +1,13 @@
-// Instances: the cells of an entry, copied behind those in use.
-ghost use Rattle.std.specs.Prelude.{◌≡◌, ◌≤◌, length};
-ghost use Rattle.attempts.specs.Attempts.{FewArguments, Written, Copyable, Copied, parts_at};
+// The cells of an entry as an instance has them.
+ghost use Rattle.std.specs.Prelude.{◌≤◌};
+ghost use Rattle.attempts.specs.Attempts.{FewArguments, Written};
 
 use book::entry::EntryCell;
-use book::interface::Book;
-use cells::cell::{Cell, Content};
-use cells::writes::put;
+use cells::cell::Content;
 use leaf::kind::Leaf;
 
 // A cell of an entry, as it is written behind so many cells.
-fn content<L: Leaf>(cell: EntryCell<L>, base: u16) -> Content<L>
+pub(crate) fn content<L: Leaf>(cell: EntryCell<L>, base: u16) -> Content<L>
     requires few { FewArguments cell }
     requires small { base ≤ 2048 }
     ensures { Written base cell result }
@@ -18,6 +16,7 @@ fn content<L: Leaf>(cell: EntryCell<L>, base: u16) -> Content<L>
         EntryCell::Variable => Content::Open,
         EntryCell::Leaf(value) => Content::Leaf(value),
         EntryCell::Node(node) => {
+            // an array's `map` was tried: of its iterator the check does not learn each of the four sums
             let [a, b, c, d] = node.args.cells;
             Content::Node {
                 symbol: node.symbol,
@@ -29,25 +28,6 @@ fn content<L: Leaf>(cell: EntryCell<L>, base: u16) -> Content<L>
                 ],
                 count: node.args.len,
             }
-        }
-    }
-}
-
-// Copies the cells of the entry with that number behind the first cells.
-pub(crate) fn copy_entry<L: Leaf, B: Book<L>>(
-    book: &B,
-    number: u16,
-    count: usize,
-    cells: &mut [Cell<L>],
-    base: usize,
-)
-    requires { Copyable (B.Book.entries book.now) number count cells.old base }
-    ensures { Copied (parts_at (B.Book.entries book.now) number) cells.old base count
-        cells.new }
-{
-    for j in 0..count {
-        if let Some(cell) = book.cell(number as usize, j) {
-            put(cells, base + j, content(cell, base as u16));
         }
     }
 }

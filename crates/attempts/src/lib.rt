@@ -2,6 +2,6 @@
 // in solved form, and are called only by the solver, which keeps them so.
 #![tactic(auto)]
 
-pub mod attempt;
 pub mod extent;
 mod instance;
+pub mod store;

@@ -1,16 +1,17 @@
 -- The entries that a goal may still try.
-use Rattle.std.proofs.Common.{◌≡◌, ℕ, suc, ◌+◌, ◌<◌, ◌≤◌, Bool, true, false, List, [], ◌∷◌, length, Some, None, Option, sym, refl, ap, ◌∙◌, add-one, arith}
+use Rattle.std.proofs.Common.{◌≡◌, ℕ, zero, suc, ◌+◌, ◌-◌, ◌<◌, ◌≤◌, Bool, true, false, ◌⊎◌, List, [], ◌∷◌, length, Some, None, Option, sym, refl, ap, ◌∙◌, le_refl, add-zero, add-suc, inl, inr, arith}
 use mathlib.Core.Logic.{∥∥₁_elim}
 use native.Mathlib.Bridge.{le_prop}
 use Rattle.std.specs.List.{slice_get}
 use Rattle.std.proofs.lemmas.Option.{slice_get-get_or}
 use Rattle.std.proofs.lemmas.List.{drop_all}
+use Rattle.std.proofs.lemmas.Bool.{cases_lt}
 use Rattle.theory.proofs.Elements.{none_some}
 use Rattle.theory.specs.Entries.{Entry, Kind, clause, cofact, BookRules}
 use Rattle.theory.specs.Records.{step_of}
 use Rattle.theory.specs.Records as T
 use Rattle.theory.specs.Search.{clauses_from, entries_from}
-use Rattle.frames.specs.Tries.{entries_left, IsClause, NextEntry}
+use Rattle.frames.specs.Tries.{entries_left, IsClause, MayTry, NextEntry}
 use Rattle.frames.proofs.Following.{drop_some, nth_inside, true_false}
 
 -- some element of a list that has one
@@ -67,23 +68,45 @@ module _ {V : Type 0} (book : List (Entry V)) where
     record { entry = e; found = p; outer = λ i. true_false i; few = few rules k e p },
   )
 
-  -- the entry that a test lets through is the first that is left
-  pub first_inner : ∥ BookRules book ∥₁ → (inner : Bool) (from k : ℕ) → entries_left book inner from ≡ entries_left book inner k →
-      inner ≡ true → k < length book → NextEntry book inner from (Some k)
-  first_inner rules false from k e i h = true_false (sym i)
-  first_inner rules true from k e i h =
-      let z = entry_next rules k _ (slice_get-get_or book k (head_of book h) h) in (e ∙ z.0, z.1)
+  -- an entry that may not be tried is passed over
+  one_over : (inner : Bool) (k : ℕ) → k < length book → MayTry book inner k false →
+      entries_left book inner k ≡ entries_left book inner (suc k)
+  one_over true k h m = true_false (sym m)
+  one_over false k h m = passed_over k h m
 
-  pub first_clause : ∥ BookRules book ∥₁ → (inner : Bool) (from k : ℕ) → entries_left book inner from ≡ entries_left book inner k →
-      inner ≡ false → IsClause book k true → NextEntry book inner from (Some k)
-  first_clause rules true from k e i c = true_false i
-  first_clause rules false from k e i c = let z = clause_next rules k c in (e ∙ z.0, z.1)
+  -- so are many
+  all_over : (inner : Bool) (from d : ℕ) → from + d ≤ length book →
+      ((k : ℕ) → from ≤ k → k < from + d → MayTry book inner k false) →
+      entries_left book inner from ≡ entries_left book inner (from + d)
+  all_over inner from zero h f = ap (entries_left book inner) (sym (add-zero from))
+  all_over inner from (suc d) h f =
+      all_over inner from d (omega arith) (λ k a b. f k a (omega arith))
+      ∙ (one_over inner (from + d) (omega arith) (f (from + d) (omega arith) (omega arith))
+      ∙ ap (entries_left book inner) (sym (add-suc from d)))
 
-  -- a co-fact is passed over
-  pub one_over : (inner : Bool) (from k : ℕ) → entries_left book inner from ≡ entries_left book inner k → inner ≡ false →
-      k < length book → IsClause book k false → entries_left book inner from ≡ entries_left book inner (k + 1)
-  one_over true from k e i h c = true_false i
-  one_over false from k e i h c = e ∙ (passed_over k h c ∙ ap (entries_left book false) (sym (add-one k)))
+  over_to : (inner : Bool) (from i : ℕ) → from ≤ i → i ≤ length book →
+      ((k : ℕ) → from ≤ k → k < i → MayTry book inner k false) → entries_left book inner from ≡ entries_left book inner i
+  over_to inner from i a h f =
+      let e : from + (i - from) ≡ i = omega arith in
+      all_over inner from (i - from) (omega arith) (λ k b c. f k b (omega arith)) ∙ ap (entries_left book inner) e
+
+  -- no entry may be tried
+  pub none_first : (inner : Bool) (from : ℕ) → ((k : ℕ) → from ≤ k → k < length book → MayTry book inner k false) →
+      entries_left book inner from ≡ []
+  none_first inner from f = go (cases_lt from (length book))
+    where
+      go : (from < length book) ⊎ (length book ≤ from) → entries_left book inner from ≡ []
+      go (inl h) = over_to inner from (length book) (omega arith) (le_refl _) f ∙ none_left inner (length book) (le_refl _)
+      go (inr h) = none_left inner from h
+
+  -- the first that may be tried is the next try
+  pub some_first : ∥ BookRules book ∥₁ → (inner : Bool) (from i : ℕ) → from ≤ i → i < length book → MayTry book inner i true →
+      ((k : ℕ) → from ≤ k → k < i → MayTry book inner k false) → NextEntry book inner from (Some i)
+  some_first rules true from i a h m f =
+      let z = entry_next rules i _ (slice_get-get_or book i (head_of book h) h) in
+      (over_to true from i a (omega arith) f ∙ z.0, z.1)
+  some_first rules false from i a h m f =
+      let z = clause_next rules i m in (over_to false from i a (omega arith) f ∙ z.0, z.1)
 
   -- the number of an entry has 16 bits
   pub small : ∥ BookRules book ∥₁ → (k : ℕ) → k < length book → k < 65536

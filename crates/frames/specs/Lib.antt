@@ -1,3 +1,4 @@
+pub mod Modes
 pub mod Goals
 pub mod Tries
 pub mod Levels

@@ -41,6 +41,11 @@ module _ {V : Type 0} (book : List (Entry V)) where
   IsClause k true = (e : Entry V) × (slice_get book k ≡ Some e) × (e.kind ≡ clause)
   IsClause k false = (e : Entry V) → slice_get book k ≡ Some e → e.kind ≡ cofact
 
+  -- whether a goal may try the entry: any for an inner goal, a clause for an outer one
+  abbrev pub MayTry : Bool → ℕ → Bool → Type 0
+  MayTry true k r = r ≡ true
+  MayTry false k r = IsClause k r
+
   -- the entry can be taken by the goal
   pub record Takes (inner : Bool) (k : ℕ) : Type 0 where
     pub entry : Entry V

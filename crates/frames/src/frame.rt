@@ -3,7 +3,7 @@ use calls::step::Step;
 
 // A goal to be taken: its cell, whether it is inner, the step that left it, or none for a goal of the list, and its
 // place among that step's goals, or in the list.
-#[derive(Clone, Copy)]
+#[derive(Clone, Copy, Default)]
 pub struct Goal {
     pub cell: u16,
     pub inner: bool,
@@ -12,30 +12,13 @@ pub struct Goal {
 }
 
 // A step that stands: the goal that it took, the step, and how many cells were in use and how many joins were on the
-// trail before it.
-#[derive(Clone, Copy)]
+// trail before it, in 16 bits each, so that frames stay small. A list is filled with default ones; what those hold does not matter.
+#[derive(Clone, Copy, Default)]
 pub struct Frame {
     pub goal: Goal,
     pub step: Step,
     pub used: u16,
     pub trail: u16,
-}
-
-impl Frame {
-    // A frame to fill a list with; what it holds does not matter.
-    pub fn blank() -> Frame {
-        Frame {
-            goal: Goal {
-                cell: 0,
-                inner: false,
-                parent: None,
-                place: 0,
-            },
-            step: Step { mode: 0, number: 0 },
-            used: 0,
-            trail: 0,
-        }
-    }
 }
 
 // Which tries of a goal are left: the steps on its path from one on, nearest first, and then the entries from one on.

@@ -3,6 +3,7 @@ ghost use Rattle.std.specs.Prelude.{◌≡◌, ◌<◌, ◌≤◌, length};
 ghost use Rattle.frames.specs.Goals.{goal_left, listed_goal, Pending, NextGoal};
 
 use crate::frame::{Frame, Goal};
+use crate::mode::closes_loop;
 use book::interface::Book;
 use calls::step::Step;
 use leaf::kind::Leaf;
@@ -13,7 +14,7 @@ fn goal_of_step<L: Leaf, B: Book<L>>(book: &B, step: u16, frame: &Frame, place: 
     requires { frame.now.used ≤ 2048 }
     ensures { result ≡ goal_left (B.Book.entries book.now) step frame.now place }
 {
-    if frame.step.mode == 2 {
+    if closes_loop(frame.step) {
         if place > 0 {
             return None;
         }
@@ -58,6 +59,7 @@ pub fn next_goal<L: Leaf, B: Book<L>>(
     ensures { NextGoal (B.Book.entries book.now) goals.now frames.now
         from place result }
 {
+    // The frames are the caller's, and each names the step that left its goal: the walk follows these names.
     let mut parent = from;
     let mut at = place;
     while let Some(step) = parent {

@@ -4,4 +4,5 @@
 
 pub mod frame;
 pub mod goals;
+pub mod mode;
 pub mod tries;

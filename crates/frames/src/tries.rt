@@ -1,8 +1,9 @@
 // The tries of a goal, in their order.
 ghost use Rattle.std.specs.Prelude.{◌≡◌, ◌<◌, length};
-ghost use Rattle.frames.specs.Tries.{IsClause, NextEntry, NextTry, Chained, OnPath, cursor_after, Named};
+ghost use Rattle.frames.specs.Tries.{IsClause, MayTry, NextEntry, NextTry, Chained, OnPath, cursor_after, Named};
 
 use crate::frame::{Cursor, Frame};
+use crate::mode::{Mode, closes_loop};
 use book::entry::EntryKind;
 use book::interface::Book;
 use calls::step::Step;
@@ -12,25 +13,22 @@ use leaf::kind::Leaf;
 pub fn is_clause<L: Leaf, B: Book<L>>(book: &B, entry: usize) -> bool
     ensures { IsClause (B.Book.entries book.now) «entry» result }
 {
-    match book.outline(entry) {
-        Some(outline) => match outline.kind {
-            EntryKind::Clause => true,
-            EntryKind::CoFact => false,
-        },
-        None => false,
-    }
+    matches!(book.outline(entry), Some(outline) if outline.kind == EntryKind::Clause)
 }
 
-// The first entry from a number on that a goal may try: any for an inner goal, a clause for an outer one.
+// Whether a goal may try an entry: any for an inner goal, a clause for an outer one.
+fn may_try<L: Leaf, B: Book<L>>(book: &B, inner: bool, entry: usize) -> bool
+    ensures { MayTry (B.Book.entries book.now) inner «entry» result }
+{
+    inner || is_clause(book, entry)
+}
+
+// The first entry from a number on that a goal may try.
 fn next_entry<L: Leaf, B: Book<L>>(book: &B, inner: bool, from: u16) -> Option<u16>
     ensures { NextEntry (B.Book.entries book.now) inner from result }
 {
-    for k in (from as usize)..book.len() {
-        if inner || is_clause(book, k) {
-            return Some(k as u16);
-        }
-    }
-    None
+    let number = (from as usize..book.len()).find(|&entry| may_try(book, inner, entry))?;
+    Some(number as u16)
 }
 
 // The next try of a goal, if one is left.
@@ -39,13 +37,16 @@ pub fn next_try<L: Leaf, B: Book<L>>(book: &B, inner: bool, cursor: Cursor) -> O
 {
     if let Some(step) = cursor.path {
         return Some(Step {
-            mode: 2,
+            mode: Mode::Loop.into(),
             number: step,
         });
     }
     let number = next_entry(book, inner, cursor.entry)?;
-    let mode = if inner { 3 } else { 1 };
-    Some(Step { mode, number })
+    let mode = if inner { Mode::Entry } else { Mode::Clause };
+    Some(Step {
+        mode: mode.into(),
+        number,
+    })
 }
 
 // Whether a step is on the path of a goal, which begins with the step that left the goal.
@@ -53,6 +54,7 @@ pub fn on_path(frames: &[Frame], from: Option<u16>, number: u16) -> bool
     requires { Chained frames.now from }
     ensures { OnPath frames.now from number result }
 {
+    // The frames are the caller's, and each names the step that left its goal: the walk follows these names.
     let mut next = from;
     while let Some(step) = next {
         if step == number {
@@ -68,7 +70,7 @@ pub fn after(frames: &[Frame], step: Step) -> Cursor
     requires { Named (length frames.now) step }
     ensures { result ≡ cursor_after frames.now step }
 {
-    if step.mode == 2 {
+    if closes_loop(step) {
         let frame = frames[step.number as usize];
         return Cursor {
             path: frame.goal.parent,

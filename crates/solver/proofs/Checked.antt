@@ -1,5 +1,5 @@
 -- The answer of check is the executed one.
-use Rattle.std.proofs.Common.{◌≡◌, ℕ, ◌-◌, ◌*◌, ◌<◌, ◌≤◌, Bool, ◌||◌, ltb, ◌⊎◌, List, length, take, vec_items, Option, Result, sym, refl, ap, ◌∙◌, subst, inl, inr, arith}
+use Rattle.std.proofs.Common.{◌≡◌, ℕ, ◌-◌, ◌*◌, ◌<◌, ◌≤◌, Bool, ◌||◌, ltb, ◌⊎◌, List, length, take, vec_items, Option, Result, sym, refl, ap, ◌∙◌, subst, inl, inr, arith, Decides as Tells}
 use native.Mathlib.Nat.{min-le_left, min-le_right, le-min}
 use lib.ListN.{length-map}
 use Rattle.std.proofs.lemmas.Bool.{lt-ltb, le-ltb}
@@ -9,6 +9,7 @@ use Rattle.theory.specs.Records as T
 use Rattle.theory.specs.Answers.{capacity, answer_to}
 use Rattle.unify.specs.Cells as C
 use Rattle.unify.specs.Theorems.{Decides}
+use Rattle.cells.proofs.Sameness.{decided}
 use Rattle.searching.specs.Answering.{Answered, answered, refusing, answers}
 use Rattle.searching.specs.Checking.{checks}
 use Rattle.cells.specs.declared.cell.Cell.{Cell}
@@ -56,8 +57,11 @@ module _ {L : Type 0} (alike : L → L → Bool) (book : List (Entry L)) (n turn
       (le-ltb 8 (length goals) g)
       ∙ ap (λ b. refusing cs too_long b (gate cs n goals work frames (length steps) rest)) (le-ltb 4096 (length steps) s)
 
-module _ {L : Type 0} (set : IsSet L) (alike : L → L → Bool) (law : Decides alike) (book : List (Entry L))
+module _ {L : Type 0} (set : IsSet L) (alike : L → L → Bool) (decides : (x y : L) → Tells (alike x y) (x ≡ y)) (book : List (Entry L))
     (rules : ∥ BookRules book ∥₁) (old : Slate L) (goals : List ℕ) (record_steps : List Step) (work frames : ℕ) where
+  law : Decides alike
+  law = decided alike decides
+
   abbrev call : Call L
   call = check goals (steps_of record_steps) work frames
 

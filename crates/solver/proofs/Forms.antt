@@ -17,6 +17,7 @@ use Rattle.frames.specs.Tries.{mode_of, IsClause, Chain, OnPath}
 use Rattle.frames.proofs.Following.{nth_inside, true_false}
 use Rattle.frames.proofs.Agreeing.{below}
 use Rattle.frames.proofs.Leaving.{pends_chain}
+use Rattle.slate.specs.declared.refusal.Rule.TheVariants.{GoalAndMode, ClauseForOuter, LoopOfOuter, EntryForInner}
 use Rattle.solver.specs.Checking.{Tested}
 
 -- there is something at each place of a list
@@ -104,29 +105,29 @@ module _ {V : Type 0} (book : List (Entry V)) where
 
   module _ (frames : List Frame) (goal : Goal) (x : Step) where
     -- the steps that break a rule
-    pub bad_mode : (x.mode ≡ 1 → ⊥) → (x.mode ≡ 2 → ⊥) → (x.mode ≡ 3 → ⊥) → Tested book frames goal x (Some 2)
+    pub bad_mode : (x.mode ≡ 1 → ⊥) → (x.mode ≡ 2 → ⊥) → (x.mode ≡ 3 → ⊥) → Tested book frames goal x (Some GoalAndMode)
     bad_mode a b c goals r u = other_mode r (step_of x) u.first u.rest u.list a b c
 
-    pub bad_clause_inner : x.mode ≡ 1 → goal.inner ≡ true → Tested book frames goal x (Some 3)
+    pub bad_clause_inner : x.mode ≡ 1 → goal.inner ≡ true → Tested book frames goal x (Some ClauseForOuter)
     bad_clause_inner m i goals r u = clause_inner r (step_of x) u.first u.rest u.list m (u.is.inner ∙ i)
 
-    pub bad_clause : x.mode ≡ 1 → goal.inner ≡ false → IsClause book x.number false → Tested book frames goal x (Some 3)
+    pub bad_clause : x.mode ≡ 1 → goal.inner ≡ false → IsClause book x.number false → Tested book frames goal x (Some ClauseForOuter)
     bad_clause m i c goals r u = no_clause r (step_of x) u.first u.rest u.list m (u.is.inner ∙ i) c
 
-    pub bad_loop_inner : x.mode ≡ 2 → goal.inner ≡ true → Tested book frames goal x (Some 4)
+    pub bad_loop_inner : x.mode ≡ 2 → goal.inner ≡ true → Tested book frames goal x (Some LoopOfOuter)
     bad_loop_inner m i goals r u = loop_inner r (step_of x) u.first u.rest u.list m (u.is.inner ∙ i)
 
     pub bad_loop : x.mode ≡ 2 → goal.inner ≡ false → OnPath frames goal.parent x.number false →
-        Tested book frames goal x (Some 4)
+        Tested book frames goal x (Some LoopOfOuter)
     bad_loop m i p goals r u =
         no_loop r (step_of x) u.first u.rest u.list m (u.is.inner ∙ i)
         (ap (member x.number) (u.is.path i)
         ∙ sym (p u.chain (pends_chain book goals frames u.chain goal.parent (suc goal.place) u.rest u.pends)))
 
-    pub bad_entry_outer : x.mode ≡ 3 → goal.inner ≡ false → Tested book frames goal x (Some 5)
+    pub bad_entry_outer : x.mode ≡ 3 → goal.inner ≡ false → Tested book frames goal x (Some EntryForInner)
     bad_entry_outer m i goals r u = entry_outer r (step_of x) u.first u.rest u.list m (u.is.inner ∙ i)
 
-    pub bad_entry : x.mode ≡ 3 → goal.inner ≡ true → length book ≤ x.number → Tested book frames goal x (Some 5)
+    pub bad_entry : x.mode ≡ 3 → goal.inner ≡ true → length book ≤ x.number → Tested book frames goal x (Some EntryForInner)
     bad_entry m i h goals r u = no_entry r (step_of x) u.first u.rest u.list m (u.is.inner ∙ i) h
 
     -- the steps that break none

@@ -1,3 +1,5 @@
+pub mod Answered
+pub mod Onward
 pub mod Stepping
 pub mod Moments
 pub mod Backing
@@ -9,5 +11,4 @@ pub mod Sittings
 pub mod Forms
 pub mod Checks
 pub mod Replaying
-pub mod Rewinding
 pub mod Checked

@@ -1,5 +1,5 @@
 -- One turn of a search on the lists that it was lent.
-use Rattle.std.proofs.Common.{◌≡◌, ℕ, suc, ◌+◌, ◌-◌, ◌*◌, ◌<◌, ◌≤◌, Bool, true, false, cond, eqb, List, [], length, get_or, take, Some, None, Option, sym, refl, ap, ◌∙◌, subst, inl, inr, add-one, arith, length-take}
+use Rattle.std.proofs.Common.{◌≡◌, ℕ, suc, ◌+◌, ◌-◌, ◌*◌, ◌<◌, ◌≤◌, Bool, true, false, cond, eqb, List, [], length, get_or, take, Some, None, Err, Option, sym, refl, ap, ◌∙◌, subst, inl, inr, add-one, arith, length-take, Decides as Tells}
 use mathlib.Core.Logic.{∥∥₁_elim}
 use native.Mathlib.Bridge.{le_prop}
 use Rattle.std.specs.List.{slice_get, AllByRecursion}
@@ -13,6 +13,7 @@ use Rattle.unify.specs.Cells.{unjoined}
 use Rattle.unify.specs.Solved.{Solved}
 use Rattle.unify.specs.Unify.{State, Move, unify}
 use Rattle.unify.specs.Theorems.{Decides}
+use Rattle.cells.proofs.Sameness.{decided}
 use Rattle.unify.specs.Steady.{WentOn}
 use Rattle.unify.proofs.Running.{went_on}
 use Rattle.searching.specs.Trying.{copied}
@@ -33,11 +34,12 @@ use Rattle.frames.proofs.Following.{unset, nth_inside}
 use Rattle.frames.proofs.Pushing.{goal_inside, end_after}
 use Rattle.frames.proofs.Starting.{unjoined_copied}
 use Rattle.frames.proofs.Turning.{Onto, entry_onto, loop_onto, next, at_spent, at_full, at_short, at_falls, at_stands}
-use Rattle.solver.specs.declared.standing.Standing.{Standing}
-use Rattle.solver.specs.declared.standing.Moment.{Moment}
-use Rattle.solver.specs.declared.standing.Bounds.{Bounds}
-use Rattle.solver.specs.declared.standing.Ending.TheVariants.{Spent, Full, Short}
+use Rattle.solver.specs.Standing.{Standing, Moment}
+use Rattle.solver.specs.declared.bounds.Bounds.{Bounds}
+use Rattle.solver.specs.declared.ending.Ending.TheVariants.{Spent, Full, Short}
 use Rattle.solver.specs.Steps.{head_in, goal_cell, size_at, parts_for, target, Formed, Takeable, Stepped}
+use Rattle.solver.specs.declared.search.Search.{Search}
+use Rattle.solver.specs.Derivations.{moment_of, SearchRuns}
 use Rattle.solver.specs.Searching.{turns_left, limits_of, in_use, Ground, Filled, Running, Finished, Facing}
 use Rattle.solver.proofs.Stepping.{in_use_number}
 
@@ -181,9 +183,36 @@ module _ {L : Type 0} (alike : L → L → Bool) (law : Decides alike) (book : L
       (let a : target book frames (length cells) x < length cells + size_at book x = target_low in
       let b : length mid ≡ length cells + size_at book x = mid_number in omega arith) s e
 
-module _ {L : Type 0} (alike : L → L → Bool) (law : Decides alike) (book : List (Entry L)) (rules : ∥ BookRules book ∥₁)
-    (goals : List ℕ) (b : Bounds) (cells₀ : List (C.Cell L)) (cells : List (Cell L)) (work : List ℕ) (frames : List Frame)
-    (m : Moment) (run : Running alike book goals b cells₀ cells work frames m) where
+module _ {B L : Type 0} (alike : L → L → Bool) (decides : (x y : L) → Tells (alike x y) (x ≡ y)) (entries : B → List (Entry L))
+    (rules_of : (x : B) → ∥ BookRules (entries x) ∥₁) (s : Search B L) (cells₀ : List (C.Cell L))
+    (run : SearchRuns alike (entries s.derivation.now.book.now) cells₀ s) where
+  law : Decides alike
+  law = decided alike decides
+
+  abbrev book : List (Entry L)
+  book = entries s.derivation.now.book.now
+
+  rules : ∥ BookRules book ∥₁
+  rules = rules_of s.derivation.now.book.now
+
+  abbrev goals : List ℕ
+  goals = s.derivation.now.goals.now
+
+  abbrev b : Bounds
+  b = s.bounds
+
+  abbrev cells : List (Cell L)
+  cells = s.derivation.now.store.now.cells.now
+
+  abbrev work : List ℕ
+  work = s.derivation.now.store.now.work.now
+
+  abbrev frames : List Frame
+  frames = s.derivation.now.frames.now
+
+  abbrev m : Moment
+  m = moment_of s
+
   abbrev x₀ : Extent
   x₀ = m.at.extent
 
@@ -273,16 +302,16 @@ module _ {L : Type 0} (alike : L → L → Bool) (law : Decides alike) (book : L
           here.represents.level goal u₀ lower₀ x may
 
       -- the budget is spent
-      pub spent : m.count ≡ b.budget → Finished alike book goals b cells₀ cells work frames m Spent
+      pub spent : m.count ≡ b.budget → Finished alike book goals b cells₀ cells work frames m (Err Spent)
       spent e =
-          finished Spent (at_spent alike book goals b.first cells₀ (limits_of b) frames n₀ m.cursor m.count cs ts goal here x
+          finished (Err Spent) (at_spent alike book goals b.first cells₀ (limits_of b) frames n₀ m.cursor m.count cs ts goal here x
           some short e)
 
       module _ (more : m.count ≡ b.budget → ⊥) where
         -- the record list is full
-        pub full : n₀ ≡ b.steps → Finished alike book goals b cells₀ cells work frames m Full
+        pub full : n₀ ≡ b.steps → Finished alike book goals b cells₀ cells work frames m (Err Full)
         full e =
-            finished Full (at_full alike book goals b.first cells₀ (limits_of b) frames n₀ m.cursor m.count cs ts goal here x
+            finished (Err Full) (at_full alike book goals b.first cells₀ (limits_of b) frames n₀ m.cursor m.count cs ts goal here x
             some short more (omega arith))
 
         module _ (free : n₀ ≡ b.steps → ⊥) where
@@ -293,9 +322,9 @@ module _ {L : Type 0} (alike : L → L → Bool) (law : Decides alike) (book : L
           cells_are = sym number ∙ here.represents.level.number
 
           -- the free cells are too few
-          pub scarce : b.cells - x₀.used < size_at book x → Finished alike book goals b cells₀ cells work frames m Short
+          pub scarce : b.cells - x₀.used < size_at book x → Finished alike book goals b cells₀ cells work frames m (Err Short)
           scarce e =
-              finished Short (at_short alike book goals b.first cells₀ (limits_of b) frames n₀ m.cursor m.count cs ts goal
+              finished (Err Short) (at_short alike book goals b.first cells₀ (limits_of b) frames n₀ m.cursor m.count cs ts goal
               here x some short more below (size_at book x) (copied (λ j. length cs + j) cs (parts_for book x))
               (target book frames (length cs) x) on
               (let h : x₀.used ≡ b.first + r₀.cells = cells_are in
@@ -383,30 +412,30 @@ module _ {L : Type 0} (alike : L → L → Bool) (law : Decides alike) (book : L
                   c ≡ cursor_after frames' x →
                   Running alike book goals b cells₀ cells' work' frames' (record { at = at'; cursor = c; count = m.count + 1 }) ×
                   (turns_left b (record { at = at'; cursor = c; count = m.count + 1 }) < turns_left b m)
-              after_fall s c e =
-                  let fe : frames' ≡ frames = s.taken.0 in
-                  let ae : at' ≡ m.at = s.taken.1 in
+              after_fall st c e =
+                  let fe : frames' ≡ frames = st.taken.0 in
+                  let ae : at' ≡ m.at = st.taken.1 in
                   let one : m.count < b.budget = (let h : m.count ≤ b.budget = run.count in omega arith) in
-                  let t : State L = s.tried.tried.0.0 in
+                  let t : State L = st.tried.tried.0.0 in
                   let same : at'.depth ≡ m.at.depth = ap (λ (z : Standing). z.depth) ae in (
                     record {
-                      basis = basis' s.tried.as_many s.tried.as_long s.as_long;
+                      basis = basis' st.tried.as_many st.tried.as_long st.as_long;
                       filled = record {
-                        sound = s.tried.sound;
+                        sound = st.tried.sound;
                         used = subst (λ (z : Standing). z.extent.used ≤ b.cells) (sym ae) run.filled.used;
-                        room = s.tried.room;
+                        room = st.tried.room;
                       };
                       depth = subst (λ (z : Standing). z.depth ≤ b.steps) (sym ae) run.depth;
                       count = omega arith;
                       searching =
                           moved (sym fe) (ap (λ (z : Standing). z.depth) (sym ae))
                           (sym (ap (λ (z : Standing). z.goal) ae ∙ taken)) (sym (e ∙ ap (λ f. cursor_after f x) fe))
-                          (sym s.tried.tried.1) (sym s.tried.tried.2)
+                          (sym st.tried.tried.1) (sym st.tried.tried.2)
                           (at_falls alike book goals b.first cells₀ (limits_of b) frames n₀ m.cursor m.count cs ts goal
                           here x some short more below (size_at book x) (copied (λ j. length cs + j) cs (parts_for book x))
                           (target book frames (length cs) x) on fits t
                           (ap (λ k. unify alike (copied (λ j. length cs + j) cs (parts_for book x)) goal.cell (target book frames k x))
-                          number ∙ s.tried.tried.0.1));
+                          number ∙ st.tried.tried.0.1));
                     },
                     omega arith,
                   )
@@ -416,13 +445,13 @@ module _ {L : Type 0} (alike : L → L → Bool) (law : Decides alike) (book : L
                   ((y : Goal) → at'.goal ≡ Some y → c ≡ first_cursor y) →
                   Running alike book goals b cells₀ cells' work' frames' (record { at = at'; cursor = c; count = m.count + 1 }) ×
                   (turns_left b (record { at = at'; cursor = c; count = m.count + 1 }) < turns_left b m)
-              after_step s c e =
+              after_step st c e =
                   let one : m.count < b.budget = (let h : m.count ≤ b.budget = run.count in omega arith) in
-                  let t : State L = s.tried.tried.0 in
+                  let t : State L = st.tried.tried.0 in
                   let stands : unify alike (copied (λ j. length cs + j) cs (parts_for book x)) goal.cell
                   (target book frames (length cs) x) ≡ Move.went t =
                   ap (λ k. unify alike (copied (λ j. length cs + j) cs (parts_for book x)) goal.cell (target book frames k x))
-                  number ∙ s.tried.tried.1 in
+                  number ∙ st.tried.tried.1 in
                   let up : WentOn (copied (λ j. length cs + j) cs (parts_for book x)) t =
                   stood alike law book rules goals b.first cells₀ run.basis.low frames n₀ r₀ here.spot.point.steps cs ts
                   here.represents.level goal u₀ lower₀ x may few t stands in
@@ -430,32 +459,32 @@ module _ {L : Type 0} (alike : L → L → Bool) (law : Decides alike) (book : L
                   mid_number alike law book rules goals b.first cells₀ run.basis.low frames n₀ r₀ here.spot.point.steps cs
                   ts here.represents.level goal u₀ lower₀ x may in
                   let now : at'.extent.used ≡ x₀.used + size_at book x =
-                  sym (in_use_number at'.extent.used cells' s.tried.fits)
-                  ∙ (ap length s.tried.tried.2 ∙ (up.number ∙ (size ∙ ap (λ k. k + size_at book x) number))) in
-                  let depth : at'.depth ≡ suc n₀ = s.taken.2 in (
+                  sym (in_use_number at'.extent.used cells' st.tried.fits)
+                  ∙ (ap length st.tried.tried.2 ∙ (up.number ∙ (size ∙ ap (λ k. k + size_at book x) number))) in
+                  let depth : at'.depth ≡ suc n₀ = st.taken.2 in (
                     record {
-                      basis = basis' s.tried.as_many s.tried.as_long s.as_long;
+                      basis = basis' st.tried.as_many st.tried.as_long st.as_long;
                       filled = record {
-                        sound = s.tried.sound;
+                        sound = st.tried.sound;
                         used = let h : x₀.used + size_at book x ≤ b.cells = whole in omega arith;
-                        room = s.tried.room;
+                        room = st.tried.room;
                       };
                       depth = let h : n₀ < b.steps = below in omega arith;
                       count = omega arith;
                       searching =
-                          moved refl (sym depth) refl refl (sym s.tried.tried.2) (sym s.tried.tried.3)
+                          moved refl (sym depth) refl refl (sym st.tried.tried.2) (sym st.tried.tried.3)
                           (at_stands alike book goals b.first cells₀ (limits_of b) frames n₀ m.cursor m.count cs ts goal
                           here x some short more below (size_at book x) (copied (λ j. length cs + j) cs (parts_for book x))
                           (target book frames (length cs) x) on fits t stands rules run.basis.low
-                          (let h : length cs + size_at book x ≤ 2048 = few in omega arith) frames' s.taken.0
+                          (let h : length cs + size_at book x ≤ 2048 = few in omega arith) frames' st.taken.0
                           (let h : n₀ < b.steps = below in let k : b.steps ≤ length frames = run.basis.framed in
-                          let q : length frames' ≡ length frames = s.as_long in omega arith)
-                          x₀.used x₀.trail s.taken.1 (sym number) (sym trail_number) size
+                          let q : length frames' ≡ length frames = st.as_long in omega arith)
+                          x₀.used x₀.trail st.taken.1 (sym number) (sym trail_number) size
                           (mid_front alike law book rules goals b.first cells₀ run.basis.low frames n₀ r₀
                           here.spot.point.steps cs ts here.represents.level goal u₀ lower₀ x may)
                           (mid_unjoined alike law book rules goals b.first cells₀ run.basis.low frames n₀ r₀
                           here.spot.point.steps cs ts here.represents.level goal u₀ lower₀ x may)
-                          up at'.goal s.taken.3 c e);
+                          up at'.goal st.taken.3 c e);
                     },
                     omega arith,
                   )

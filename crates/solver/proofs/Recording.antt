@@ -1,5 +1,5 @@
 -- Writing the steps that stand into a record list.
-use Rattle.std.proofs.Common.{◌≡◌, ℕ, suc, ◌+◌, ◌<◌, ◌≤◌, List, [], ◌∷◌, ◌++◌, map, length, get_or, take, drop, set, Ok, sym, refl, ap, ◌∙◌, append_assoc, add-one, arith, length-append, length-drop, length-take}
+use Rattle.std.proofs.Common.{◌≡◌, ℕ, suc, ◌+◌, ◌<◌, ◌≤◌, List, [], ◌∷◌, ◌++◌, map, length, get_or, take, drop, set, Ok, Result, sym, refl, ap, ◌∙◌, append_assoc, add-one, arith, length-append, length-drop, length-take}
 use mathlib.Core.List.{map-append}
 use lib.ListN.{length-map}
 use Rattle.std.proofs.lemmas.List.{take_at, drop_at, drop-drop, set_split, take_more}
@@ -9,9 +9,8 @@ use Rattle.theory.specs.Calls.{Answer, grants}
 use Rattle.frames.specs.declared.frame.Frame.{Frame}
 use Rattle.frames.proofs.Following.{unset}
 use Rattle.solver.specs.declared.solved.Solved.TheVariants.{Granted}
-use Rattle.solver.specs.declared.standing.Finish.{Finish}
-use Rattle.solver.specs.declared.standing.Ending.{Ending}
-use Rattle.solver.specs.declared.standing.Ending.TheVariants as E
+use Rattle.solver.specs.declared.ending.Finish.{Finish}
+use Rattle.solver.specs.declared.ending.Ending.{Ending}
 use Rattle.solver.specs.Searching.{frame_steps}
 use Rattle.solver.specs.Solver.{steps_written, Concluded}
 
@@ -28,11 +27,6 @@ filled xs old i x n h =
         ap (λ k. drop k (xs ++ drop i old)) (sym (add-one i))
         ∙ (sym (drop-drop 1 i (xs ++ drop i old)) ∙ (ap (drop 1) (drop_at xs (drop i old) i n) ∙ drop-drop 1 i old))
 
--- no step is written yet
-pub none_written : (frames : List Frame) (old : List Step) → old ≡ steps_written (take 0 frames) old
-none_written [] old = refl
-none_written (f ∷ frames) old = refl
-
 -- one more is written
 pub one_written : (frames : List Frame) (old steps : List Step) (i : ℕ) → steps ≡ steps_written (take i frames) old →
     i < length frames → i < length old → set steps i (get_or frames i unset).step ≡ steps_written (take (i + 1) frames) old
@@ -47,7 +41,7 @@ one_written frames old steps i e h k =
     ∙ ap (λ l. l ++ drop (i + 1) old) (map-append (λ (f : Frame). f.step) (take i frames) (get_or frames i unset ∷ []))))
 
 -- the record of a grant
-pub granted_record : (end : Finish) (frames : List Frame) (old new : List Step) → end.ending ≡ E.Granted →
+pub granted_record : (end : Finish) (frames : List Frame) (old new : List Step) → end.ending ≡ Ok tt →
     end.depth ≤ length old → end.depth ≤ length frames → new ≡ steps_written (take end.depth frames) old →
     Concluded end frames old new (Ok (Granted end.count end.depth))
 granted_record end frames old new g h k e =
@@ -67,7 +61,7 @@ granted_record end frames old new g h k e =
       );
     }
   where
-    out : Ending → Answer
+    out : Result (Unit {0}) Ending → Answer
     out z = Rattle.theory.specs.Answers.answer_of
         (Rattle.solver.specs.Searching.outcome_of z end.count (frame_steps (take end.depth frames)))
 

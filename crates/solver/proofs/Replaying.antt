@@ -1,16 +1,17 @@
 -- One step of a replay on the lists that it was lent.
-use Rattle.std.proofs.Common.{◌≡◌, ℕ, suc, ◌+◌, ◌-◌, ◌*◌, ◌<◌, ◌≤◌, Bool, true, false, List, [], ◌∷◌, ◌++◌, length, get_or, take, drop, Some, None, Option, sym, refl, ap, ◌∙◌, subst, add-one, arith, length-take, drop-cons}
+use Rattle.std.proofs.Common.{◌≡◌, ℕ, suc, ◌+◌, ◌-◌, ◌*◌, ◌<◌, ◌≤◌, Bool, true, false, List, [], ◌∷◌, ◌++◌, length, get_or, take, drop, Some, None, Option, sym, refl, ap, ◌∙◌, subst, add-one, arith, length-take, drop-cons, Decides as Tells}
 use Rattle.std.proofs.lemmas.List.{drop_all}
 use Rattle.theory.specs.Entries.{Entry, BookRules}
 use Rattle.theory.specs.Records.{Replay, step, start}
 use Rattle.theory.specs.Records as T
 use Rattle.theory.specs.Check.{Verdict, passed, unlawful, no_cells}
-use Rattle.theory.specs.Calls.{passes, refused, unlawful_at, no_cell}
+use Rattle.theory.specs.Calls.{Answer, passes, refused, unlawful_at, no_cell}
 use Rattle.theory.specs.Answers.{answer_to}
 use Rattle.unify.specs.Cells as C
 use Rattle.unify.specs.Cells.{unjoined}
 use Rattle.unify.specs.Unify.{State, Move, unify}
 use Rattle.unify.specs.Theorems.{Decides}
+use Rattle.cells.proofs.Sameness.{decided}
 use Rattle.unify.specs.Steady.{WentOn}
 use Rattle.searching.specs.Trying.{copied}
 use Rattle.searching.specs.Checking.{checks_from, checks}
@@ -28,21 +29,91 @@ use Rattle.frames.proofs.Pushing.{pushed, pends_new}
 use Rattle.frames.proofs.Starting.{start_level, start_pends}
 use Rattle.frames.proofs.Leaving.{pends_chain}
 use Rattle.frames.proofs.Turning.{Onto}
-use Rattle.solver.specs.declared.standing.Standing.{Standing}
-use Rattle.solver.specs.declared.standing.Bounds.{Bounds}
+use Rattle.solver.specs.Standing.{Standing}
+use Rattle.solver.specs.declared.bounds.Bounds.{Bounds}
+use Rattle.slate.specs.declared.refusal.Rule.{Rule}
+use Rattle.slate.specs.Refusals.{rule_number}
 use Rattle.solver.specs.Steps.{size_at, parts_for, target, Formed, Takeable, Stepped, frame_of}
 use Rattle.solver.specs.Searching.{in_use, Ground}
 use Rattle.solver.specs.Runs.{Begun, Ready}
-use Rattle.solver.specs.Checking.{Tested, Faces, Replaying, Replays}
+use Rattle.solver.specs.Checking.{bounds_of, Tested, Faces, Replaying, Replays}
+use Rattle.solver.specs.declared.derivation.Derivation.{Derivation}
+use Rattle.solver.specs.Derivations.{standing_of, Continues, verdict_on, ReplayGoes}
+use Rattle.solver.proofs.Onward.{onward, backward, further}
 use Rattle.solver.proofs.Stepping.{in_use_number}
 use Rattle.solver.proofs.Moments.{onto, mid_number, mid_front, mid_unjoined, formed, goal_low, stood}
 use Rattle.solver.proofs.Checks.{check_passed, check_pending, check_broken, check_scarce, check_falls, check_stands}
 use Rattle.solver.proofs.Forms.{nothing_pends}
 
-module _ {L : Type 0} (alike : L → L → Bool) (law : Decides alike) (book : List (Entry L)) (rules : ∥ BookRules book ∥₁)
-    (goals : List ℕ) (b : Bounds) (cells₀ : List (C.Cell L)) (v : Verdict) (cells : List (Cell L)) (work : List ℕ)
-    (frames : List Frame) (at : Standing) (left : List T.Step)
-    (run : Replaying alike book goals b cells₀ v cells work frames at left) (i : ℕ) (same : at.depth ≡ i) where
+-- the next step of a record, or that none is left
+module _ (record_steps : List Step) (i : ℕ) where
+  pub next_step : (d : Step) → i < length record_steps →
+      steps_of (drop i record_steps) ≡ step_of (get_or record_steps i d) ∷ steps_of (drop (i + 1) record_steps)
+  next_step d h =
+      ap steps_of (drop-cons record_steps i d h)
+      ∙ ap (λ j. step_of (get_or record_steps i d) ∷ steps_of (drop j record_steps)) (sym (add-one i))
+
+  pub no_step : length record_steps ≤ i → steps_of (drop i record_steps) ≡ []
+  no_step h = ap steps_of (drop_all i record_steps h)
+
+-- what is read past the end of a record
+abbrev blank : Step
+blank = record { mode = 0; number = 0 }
+
+module _ {B L : Type 0} (alike : L → L → Bool) (decides : (x y : L) → Tells (alike x y) (x ≡ y)) (entries : B → List (Entry L))
+    (rules_of : (x : B) → ∥ BookRules (entries x) ∥₁) (d₀ d : Derivation B L) (room : ℕ) (record_steps : List Step) (i : ℕ)
+    (goes : ReplayGoes alike entries d₀ room d record_steps i) where
+  law : Decides alike
+  law = decided alike decides
+
+  abbrev book : List (Entry L)
+  book = entries d.book.now
+
+  rules : ∥ BookRules book ∥₁
+  rules = rules_of d.book.now
+
+  abbrev goals : List ℕ
+  goals = d.goals.now
+
+  abbrev b : Bounds
+  b = bounds_of (length record_steps) room d₀.store.now.extent.used
+
+  abbrev cells₀ : List (C.Cell L)
+  cells₀ = cells_of (take d₀.store.now.extent.used d₀.store.now.cells.now)
+
+  abbrev v : Verdict
+  v = verdict_on alike entries d₀ room record_steps
+
+  abbrev cells : List (Cell L)
+  cells = d.store.now.cells.now
+
+  abbrev work : List ℕ
+  work = d.store.now.work.now
+
+  abbrev frames : List Frame
+  frames = d.frames.now
+
+  abbrev at : Standing
+  at = standing_of d
+
+  abbrev left : List T.Step
+  left = steps_of (drop i record_steps)
+
+  run : Replaying alike book goals b cells₀ v cells work frames at left
+  run = goes.replaying
+
+  same : at.depth ≡ i
+  same = goes.depth
+
+  -- the replay has ended on these lists, over what it began over
+  abbrev Over : List (Cell L) → List ℕ → List Frame → Standing → Answer → Type 0
+  Over cells' work' frames' at' a = Replays alike (entries d₀.book.now) d₀.goals.now b cells₀ v cells' work' frames' at' a
+
+  over : (cells' : List (Cell L)) (work' : List ℕ) (frames' : List Frame) (at' : Standing) (a : Answer) →
+      Replays alike book goals b cells₀ v cells' work' frames' at' a → Over cells' work' frames' at' a
+  over cells' work' frames' at' a done =
+      backward entries d₀ d (λ bk gs. Replays alike bk gs b cells₀ v cells' work' frames' at' a) goes.same done
+
   abbrev x₀ : Extent
   x₀ = at.extent
 
@@ -76,8 +147,8 @@ module _ {L : Type 0} (alike : L → L → Bool) (law : Decides alike) (book : L
 
   -- the replay ends here
   ends : (w : Verdict) → checks_from alike book b.first (b.cells - b.first) left cs r₀ i ≡ w →
-      Replays alike book goals b cells₀ v cells work frames at (answer_to w)
-  ends w e = record {
+      Over cells work frames at (answer_to w)
+  ends w e = over cells work frames at (answer_to w) (record {
     basis = run.basis;
     filled = run.filled;
     replay = r₀;
@@ -86,33 +157,47 @@ module _ {L : Type 0} (alike : L → L → Bool) (law : Decides alike) (book : L
     answer =
         ap answer_to (sym e
         ∙ (ap (checks_from alike book b.first (b.cells - b.first) left cs r₀) (sym same) ∙ run.leads));
-  }
+  })
 
   -- no step is left
-  module _ (none : left ≡ []) where
-    pub all_passed : at.goal ≡ None → Replays alike book goals b cells₀ v cells work frames at passes
+  module _ (past : length record_steps ≤ i) where
+    none : left ≡ []
+    none = no_step record_steps i past
+
+    pub all_passed : at.goal ≡ None → Over cells work frames at passes
     all_passed e =
         ends passed (ap (λ l. checks_from alike book b.first (b.cells - b.first) l cs r₀ i) none
         ∙ check_passed alike book b.first (b.cells - b.first) cs r₀ i
         (subst (λ g. Faces book goals frames n₀ g r₀.pending) e run.faces))
 
     pub still_pending : (goal : Goal) → at.goal ≡ Some goal →
-        Replays alike book goals b cells₀ v cells work frames at (refused (unlawful_at i 6))
-    still_pending goal e =
+        i ≤ length record_steps → Over cells work frames at (refused (unlawful_at (length record_steps) 6))
+    still_pending goal e up =
+        let all : i ≡ length record_steps = omega arith in
         let u : Current book goals frames goal r₀.pending =
         (subst (λ g. Faces book goals frames n₀ g r₀.pending) e run.faces).0 in
-        ends (unlawful i 6) (ap (λ l. checks_from alike book b.first (b.cells - b.first) l cs r₀ i) none
-        ∙ check_pending alike book b.first (b.cells - b.first) cs r₀ i u.first u.rest u.list)
+        subst (λ n. Over cells work frames at (refused (unlawful_at n 6))) all
+        (ends (unlawful i 6) (ap (λ l. checks_from alike book b.first (b.cells - b.first) l cs r₀ i) none
+        ∙ check_pending alike book b.first (b.cells - b.first) cs r₀ i u.first u.rest u.list))
 
   -- a step is left
-  module _ (x : Step) (xs : List T.Step) (next : left ≡ step_of x ∷ xs) where
+  module _ (more : i < length record_steps) where
+    abbrev x : Step
+    x = get_or record_steps i blank
+
+    abbrev xs : List T.Step
+    xs = steps_of (drop (i + 1) record_steps)
+
+    next : left ≡ step_of x ∷ xs
+    next = next_step record_steps i blank more
+
     -- the replay ends at it
     ends_at : (w : Verdict) → checks_from alike book b.first (b.cells - b.first) (step_of x ∷ xs) cs r₀ i ≡ w →
-        Replays alike book goals b cells₀ v cells work frames at (answer_to w)
+        Over cells work frames at (answer_to w)
     ends_at w e = ends w (ap (λ l. checks_from alike book b.first (b.cells - b.first) l cs r₀ i) next ∙ e)
 
     -- no goal is pending
-    pub none_pending : at.goal ≡ None → Replays alike book goals b cells₀ v cells work frames at (refused (unlawful_at i 2))
+    pub none_pending : at.goal ≡ None → Over cells work frames at (refused (unlawful_at i 2))
     none_pending e =
         ends_at (unlawful i 2) (check_broken alike book b.first (b.cells - b.first) cs r₀ i (step_of x) xs 2
         (nothing_pends book r₀ (step_of x) (subst (λ g. Faces book goals frames n₀ g r₀.pending) e run.faces)))
@@ -133,10 +218,10 @@ module _ {L : Type 0} (alike : L → L → Bool) (law : Decides alike) (book : L
           (u₀.chain, pends_chain book goals frames u₀.chain goal.parent (suc goal.place) u₀.rest u₀.pends)
 
       -- the step breaks a rule by its form
-      pub bad_form : (rule : ℕ) → Tested book frames goal x (Some rule) →
-          Replays alike book goals b cells₀ v cells work frames at (refused (unlawful_at i rule))
+      pub bad_form : (rule : Rule) → Tested book frames goal x (Some rule) →
+          Over cells work frames at (refused (unlawful_at i (rule_number rule)))
       bad_form rule t =
-          ends_at (unlawful i rule) (check_broken alike book b.first (b.cells - b.first) cs r₀ i (step_of x) xs rule
+          ends_at (unlawful i (rule_number rule)) (check_broken alike book b.first (b.cells - b.first) cs r₀ i (step_of x) xs (rule_number rule)
           (t goals r₀ u₀))
 
       module _ (good : Tested book frames goal x None) where
@@ -154,7 +239,7 @@ module _ {L : Type 0} (alike : L → L → Bool) (law : Decides alike) (book : L
 
         -- its instance does not fit
         pub scarce : b.cells - x₀.used < size_at book x →
-            Replays alike book goals b cells₀ v cells work frames at (refused no_cell)
+            Over cells work frames at (refused no_cell)
         scarce e =
             ends_at no_cells (check_scarce alike book b.first (b.cells - b.first) cs r₀ i (step_of x) xs on.next on.on
             (let q : on.next.cells ≡ r₀.cells + size_at book x = on.number in
@@ -162,7 +247,10 @@ module _ {L : Type 0} (alike : L → L → Bool) (law : Decides alike) (book : L
             let k : x₀.used ≤ b.cells = run.filled.used in
             omega arith))
 
-        module _ (enough : size_at book x ≤ b.cells - x₀.used) (below : n₀ < b.steps) where
+        module _ (enough : size_at book x ≤ b.cells - x₀.used) where
+          below : n₀ < b.steps
+          below = let q : n₀ ≡ i = same in omega arith
+
           whole : x₀.used + size_at book x ≤ b.cells
           whole = let k : x₀.used ≤ b.cells = run.filled.used in omega arith
 
@@ -195,6 +283,7 @@ module _ {L : Type 0} (alike : L → L → Bool) (law : Decides alike) (book : L
               let g3 : 2 * b.cells ≤ length work = run.basis.long in
               let g4 : b.steps ≤ length frames = run.basis.framed in
               let g5 : b.steps ≤ 4096 = run.basis.short in
+              let g6 : n₀ < b.steps = below in
               record {
                 pending = r₀.pending;
                 current = u₀;
@@ -217,7 +306,19 @@ module _ {L : Type 0} (alike : L → L → Bool) (law : Decides alike) (book : L
                 trail = omega arith;
               }
 
-          module _ (cells' : List (Cell L)) (work' : List ℕ) (frames' : List Frame) (at' : Standing) where
+          module _ (d' : Derivation B L) where
+            abbrev cells' : List (Cell L)
+            cells' = d'.store.now.cells.now
+
+            abbrev work' : List ℕ
+            work' = d'.store.now.work.now
+
+            abbrev frames' : List Frame
+            frames' = d'.frames.now
+
+            abbrev at' : Standing
+            at' = standing_of d'
+
             -- the lists are as long as they were
             basis' : length cells' ≡ length cells → length work' ≡ length work → length frames' ≡ length frames →
                 Ground goals b cells' work' frames'
@@ -244,7 +345,7 @@ module _ {L : Type 0} (alike : L → L → Bool) (law : Decides alike) (book : L
 
             -- the step leaves no reading
             pub after_fall : Stepped alike book goals goal x false cells work frames at cells' work' frames' at' →
-                Replays alike book goals b cells₀ v cells' work' frames' at' (refused (unlawful_at i 7))
+                Over cells' work' frames' at' (refused (unlawful_at i 7))
             after_fall s =
                 let fe : frames' ≡ frames = s.taken.0 in
                 let ae : at' ≡ at = s.taken.1 in
@@ -253,10 +354,10 @@ module _ {L : Type 0} (alike : L → L → Bool) (law : Decides alike) (book : L
                 (target book frames (length cs) x) ≡ Move.clash t =
                 ap (λ k. unify alike (copied (λ j. length cs + j) cs (parts_for book x)) goal.cell (target book frames k x))
                 number ∙ s.tried.tried.0.1 in
-                let done : Replays alike book goals b cells₀ v cells work frames at (refused (unlawful_at i 7)) =
+                let done : Over cells work frames at (refused (unlawful_at i 7)) =
                 ends_at (unlawful i 7) (check_falls alike book b.first (b.cells - b.first) cs r₀ i (step_of x) xs
                 on.next on.on fits u₀.first u₀.rest u₀.list t (on.tried ∙ falls)) in
-                record {
+                over cells' work' frames' at' _ (record {
                   basis = basis' s.tried.as_many s.tried.as_long s.as_long;
                   filled = record {
                     sound = s.tried.sound;
@@ -268,12 +369,12 @@ module _ {L : Type 0} (alike : L → L → Bool) (law : Decides alike) (book : L
                   level = level' r₀ run.steps (sym fe) (ap (λ (z : Standing). z.depth) (sym ae))
                       (sym s.tried.tried.1) (sym s.tried.tried.2) run.level;
                   answer = done.answer;
-                }
+                })
 
             -- the step stands
-            pub after_step : Stepped alike book goals goal x true cells work frames at cells' work' frames' at' →
+            stands_on : Stepped alike book goals goal x true cells work frames at cells' work' frames' at' →
                 Replaying alike book goals b cells₀ v cells' work' frames' at' xs
-            after_step s =
+            stands_on s =
                 let t : State L = s.tried.tried.0 in
                 let stands : unify alike (copied (λ j. length cs + j) cs (parts_for book x)) goal.cell
                 (target book frames (length cs) x) ≡ Move.went t =
@@ -334,26 +435,21 @@ module _ {L : Type 0} (alike : L → L → Bool) (law : Decides alike) (book : L
                 faced None l w = w
                 faced (Some y) l w = w
 
-            pub depth_after : Stepped alike book goals goal x true cells work frames at cells' work' frames' at' →
-                at'.depth ≡ i + 1
-            depth_after s = let e : at'.depth ≡ suc n₀ = s.taken.2 in let q : n₀ ≡ i = same in omega arith
-
--- the next step of a record, or that none is left
-module _ (record_steps : List Step) (i : ℕ) where
-  pub next_step : (d : Step) → i < length record_steps →
-      steps_of (drop i record_steps) ≡ step_of (get_or record_steps i d) ∷ steps_of (drop (i + 1) record_steps)
-  next_step d h =
-      ap steps_of (drop-cons record_steps i d h)
-      ∙ ap (λ j. step_of (get_or record_steps i d) ∷ steps_of (drop j record_steps)) (sym (add-one i))
-
-  pub no_step : length record_steps ≤ i → steps_of (drop i record_steps) ≡ []
-  no_step h = ap steps_of (drop_all i record_steps h)
+            -- and the replay goes on
+            pub after_step : Continues d d' → Stepped alike book goals goal x true cells work frames at cells' work' frames' at' →
+                ReplayGoes alike entries d₀ room d' record_steps (i + 1)
+            after_step on s = record {
+              depth = let e : at'.depth ≡ suc n₀ = s.taken.2 in let q : n₀ ≡ i = same in omega arith;
+              replaying =
+                  onward entries d d' (λ bk gs. Replaying alike bk gs b cells₀ v cells' work' frames' at' xs) on (stands_on s);
+              same = further goes.same on;
+            }
 
 -- where a replay begins
 module _ {L : Type 0} (alike : L → L → Bool) (book : List (Entry L)) (goals : List ℕ) (b : Bounds) (cells : List (Cell L))
     (work : List ℕ) (frames : List Frame) (ready : Ready goals b cells work frames) (record_steps : List T.Step) where
-  abbrev cells₀ : List (C.Cell L)
-  cells₀ = cells_of (take b.first cells)
+  abbrev first_cells : List (C.Cell L)
+  first_cells = cells_of (take b.first cells)
 
   first_fits : b.first ≤ length cells
   first_fits =
@@ -362,18 +458,18 @@ module _ {L : Type 0} (alike : L → L → Bool) (book : List (Entry L)) (goals 
       omega arith
 
   pub begins : (at : Standing) → Begun book goals frames b.first at →
-      Replaying alike book goals b cells₀ (checks alike book b.first (b.cells - b.first) cells₀ goals record_steps)
+      Replaying alike book goals b first_cells (checks alike book b.first (b.cells - b.first) first_cells goals record_steps)
       cells work frames at record_steps
   unfolding checks
   begins at begun =
-      subst (λ z. Replaying alike book goals b cells₀ (checks alike book b.first (b.cells - b.first) cells₀ goals record_steps)
+      subst (λ z. Replaying alike book goals b first_cells (checks alike book b.first (b.cells - b.first) first_cells goals record_steps)
       cells work frames z record_steps) same (record {
         basis = ready.basis;
         filled = record { sound = ready.sound; used = ready.basis.begin; room = omega arith };
         replay = start goals;
         steps = [];
-        level = subst (λ k. Level book goals k cells₀ frames 0 (start goals) [] cells₀ [])
-            (in_use_number b.first cells first_fits) (start_level book goals frames cells₀ ready.sound.solved);
+        level = subst (λ k. Level book goals k first_cells frames 0 (start goals) [] first_cells [])
+            (in_use_number b.first cells first_fits) (start_level book goals frames first_cells ready.sound.solved);
         faces = faced at.goal (begun.goal [] (start {V = L} goals).pending (start_pends book goals frames));
         leads = refl;
       })

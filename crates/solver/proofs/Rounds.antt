@@ -1,6 +1,7 @@
 -- A whole search: how it begins, and what it leaves.
-use Rattle.std.proofs.Common.{◌≡◌, ℕ, ◌+◌, ◌<◌, ◌≤◌, Bool, true, false, List, [], length, take, sym, refl, ◌∙◌, subst, arith}
+use Rattle.std.proofs.Common.{◌≡◌, ℕ, ◌+◌, ◌<◌, ◌≤◌, Bool, true, false, List, [], length, take, Ok, Err, Result, sym, refl, ◌∙◌, subst, arith}
 use Rattle.std.specs.List.{AllByRecursion}
+use Rattle.std.specs.Result.{is_err}
 use Rattle.theory.specs.Entries.{Entry}
 use Rattle.unify.specs.Cells as C
 use Rattle.unify.specs.Solved.{Solved}
@@ -13,12 +14,11 @@ use Rattle.frames.specs.declared.frame.Frame.{Frame}
 use Rattle.frames.specs.declared.frame.Cursor.{Cursor}
 use Rattle.frames.specs.Points.{Searching}
 use Rattle.frames.proofs.Starting.{start_searching}
-use Rattle.solver.specs.declared.standing.Standing.{Standing}
-use Rattle.solver.specs.declared.standing.Moment.{Moment}
-use Rattle.solver.specs.declared.standing.Bounds.{Bounds}
-use Rattle.solver.specs.declared.standing.Ending.{Ending}
-use Rattle.solver.specs.declared.standing.Ending.TheVariants.{Granted, Failed, Spent, Full, Short}
-use Rattle.solver.specs.Searching.{limits_of, frame_steps, outcome_of, ends_granted, in_use, origin, FirstTries, Running, Finished}
+use Rattle.solver.specs.Standing.{Standing, Moment}
+use Rattle.solver.specs.declared.bounds.Bounds.{Bounds}
+use Rattle.solver.specs.declared.ending.Ending.{Ending}
+use Rattle.solver.specs.declared.ending.Ending.TheVariants.{Failed, Spent, Full, Short}
+use Rattle.solver.specs.Searching.{limits_of, frame_steps, outcome_of, in_use, origin, FirstTries, Running, Finished}
 use Rattle.solver.specs.Runs.{Begun, Ready, Ran}
 use Rattle.solver.proofs.Stepping.{in_use_number}
 
@@ -61,7 +61,7 @@ module _ {L : Type 0} (alike : L → L → Bool) (book : List (Entry L)) (goals 
       origin b.first cells work at.extent ≡ cells₀
   begins_over at begun c first = (begins at begun c first).searching.represents.level.undone
 
-  module _ (cells' : List (Cell L)) (work' : List ℕ) (frames' : List Frame) (m : Moment) (e : Ending)
+  module _ (cells' : List (Cell L)) (work' : List ℕ) (frames' : List Frame) (m : Moment) (e : Result (Unit {0}) Ending)
       (done : Finished alike book goals b cells₀ cells' work' frames' m e) where
     abbrev x₀ : Extent
     x₀ = m.at.extent
@@ -94,7 +94,7 @@ module _ {L : Type 0} (alike : L → L → Bool) (book : List (Entry L)) (goals 
     }
 
     -- a grant leaves what it came to
-    pub grants : (same : length cells' ≡ length cells) → ends_granted e ≡ true →
+    pub grants : (same : length cells' ≡ length cells) → is_err e ≡ false →
         Ran alike book goals b cells₀ cells cells' frames'
         (record { ending = e; count = m.count; depth = m.at.depth; used = x₀.used })
     unfolding left_by
@@ -108,16 +108,13 @@ module _ {L : Type 0} (alike : L → L → Bool) (book : List (Entry L)) (goals 
       as_many = same;
     }
       where
-        kept : (d : Ending) → ends_granted d ≡ true →
+        kept : (d : Result (Unit {0}) Ending) → is_err d ≡ false →
             in_use cells' x₀ ≡ left_by cells₀ (in_use cells' x₀) (outcome_of d m.count (frame_steps (take m.at.depth frames')))
-        kept Granted q = refl
-        kept Failed q = absurd (Rattle.frames.proofs.Following.true_false (sym q))
-        kept Spent q = absurd (Rattle.frames.proofs.Following.true_false (sym q))
-        kept Full q = absurd (Rattle.frames.proofs.Following.true_false (sym q))
-        kept Short q = absurd (Rattle.frames.proofs.Following.true_false (sym q))
+        kept (Ok u) q = refl
+        kept (Err d) q = absurd (Rattle.frames.proofs.Following.true_false q)
 
     -- all else leaves the cells as they were
-    pub leaves : (same : length cells' ≡ length cells) → ends_granted e ≡ false → (cells'' : List (Cell L)) →
+    pub leaves : (same : length cells' ≡ length cells) → is_err e ≡ true → (cells'' : List (Cell L)) →
         Retracted cells' work' x₀ to cells'' → (x : Extent) → x ≡ to →
         Ran alike book goals b cells₀ cells cells'' frames'
         (record { ending = e; count = m.count; depth = m.at.depth; used = x.used })
@@ -134,10 +131,10 @@ module _ {L : Type 0} (alike : L → L → Bool) (book : List (Entry L)) (goals 
           as_many = r.as_many ∙ same;
         })
       where
-        kept : (d : Ending) → ends_granted d ≡ false →
+        kept : (d : Result (Unit {0}) Ending) → is_err d ≡ true →
             cells₀ ≡ left_by cells₀ (in_use cells' x₀) (outcome_of d m.count (frame_steps (take m.at.depth frames')))
-        kept Granted q = absurd (Rattle.frames.proofs.Following.true_false q)
-        kept Failed q = refl
-        kept Spent q = refl
-        kept Full q = refl
-        kept Short q = refl
+        kept (Ok u) q = absurd (Rattle.frames.proofs.Following.true_false (sym q))
+        kept (Err Failed) q = refl
+        kept (Err Spent) q = refl
+        kept (Err Full) q = refl
+        kept (Err Short) q = refl

@@ -1,5 +1,5 @@
 -- The answers of solve are the executed ones.
-use Rattle.std.proofs.Common.{◌≡◌, ℕ, ◌-◌, ◌<◌, ◌≤◌, Bool, List, length, take, Some, vec_items, Option, sym, refl, ap, ◌∙◌, subst}
+use Rattle.std.proofs.Common.{◌≡◌, ℕ, ◌-◌, ◌<◌, ◌≤◌, Bool, List, length, take, Some, vec_items, Option, sym, refl, ap, ◌∙◌, subst, Decides as Tells}
 use Rattle.std.proofs.lemmas.Bool.{lt-ltb, le-ltb}
 use Rattle.theory.specs.Entries.{Entry, BookRules}
 use Rattle.theory.specs.Search.{Outcome}
@@ -7,6 +7,7 @@ use Rattle.theory.specs.Calls.{Call, solve, refused, too_long}
 use Rattle.theory.specs.Answers.{capacity, served, answer_of}
 use Rattle.unify.specs.Cells as C
 use Rattle.unify.specs.Theorems.{Decides}
+use Rattle.cells.proofs.Sameness.{decided}
 use Rattle.searching.specs.Solving.{solves}
 use Rattle.cells.specs.declared.cell.Cell.{Cell}
 use Rattle.cells.specs.Cells.{cells_of}
@@ -18,12 +19,15 @@ use Rattle.slate.specs.Refusals.{refusal_of}
 use Rattle.slate.specs.Slates.{supplied, in_use, KeptOver}
 use Rattle.slate.proofs.Executed.{executed}
 use Rattle.frames.specs.Points.{EndsAs}
-use Rattle.solver.specs.declared.standing.Bounds.{Bounds}
+use Rattle.solver.specs.declared.bounds.Bounds.{Bounds}
 use Rattle.solver.specs.Admission.{gate, Admitted}
 use Rattle.solver.specs.Searching.{limits_of}
 
-module _ {L : Type 0} (set : IsSet L) (alike : L → L → Bool) (law : Decides alike) (book : List (Entry L))
+module _ {L : Type 0} (set : IsSet L) (alike : L → L → Bool) (decides : (x y : L) → Tells (alike x y) (x ≡ y)) (book : List (Entry L))
     (rules : ∥ BookRules book ∥₁) (old : Slate L) (goals : List ℕ) (budget steps work frames : ℕ) where
+  law : Decides alike
+  law = decided alike decides
+
   abbrev cs : List (C.Cell L)
   cs = in_use old
 

@@ -13,14 +13,15 @@ use Rattle.cells.specs.Cells.{cells_of, WellFormed}
 use Rattle.calls.specs.declared.step.Step.{Step}
 use Rattle.calls.specs.Steps.{step_of}
 use Rattle.slate.specs.declared.refusal.Refusal.{Refusal}
-use Rattle.slate.specs.Refusals.{refusal_of}
+use Rattle.slate.specs.declared.refusal.Rule.{Rule}
+use Rattle.slate.specs.Refusals.{refusal_of, rule_number}
 use Rattle.frames.specs.declared.frame.Goal.{Goal}
 use Rattle.frames.specs.declared.frame.Frame.{Frame}
 use Rattle.frames.specs.Goals.{above, Current}
 use Rattle.frames.specs.Tries.{Allowed}
 use Rattle.frames.specs.Levels.{Level}
-use Rattle.solver.specs.declared.standing.Standing.{Standing}
-use Rattle.solver.specs.declared.standing.Bounds.{Bounds}
+use Rattle.solver.specs.Standing.{Standing}
+use Rattle.solver.specs.declared.bounds.Bounds.{Bounds}
 use Rattle.solver.specs.Searching.{in_use, Ground, Filled}
 
 -- the answer of check
@@ -35,10 +36,10 @@ bounds_of steps cells first = record { budget = 0; steps = steps; cells = cells;
 
 module _ {L : Type 0} (book : List (Entry L)) where
   -- whatever is replayed: a step with this goal first breaks the rule; or it breaks none by its form
-  abbrev pub Tested : List Frame → Goal → Step → Option ℕ → Type 0
+  abbrev pub Tested : List Frame → Goal → Step → Option Rule → Type 0
   Tested frames goal x (Some rule) =
       (goals : List ℕ) (r : Replay L) → Current book goals frames goal r.pending →
-      step book r (step_of x) ≡ Replayed.broken rule
+      step book r (step_of x) ≡ Replayed.broken (rule_number rule)
   Tested frames goal x None =
       (goals : List ℕ) (l : List T.Goal) (u : Current book goals frames goal l) (n : ℕ) → above goal.parent ≤ n →
       Allowed book frames n goal.inner u.chain x

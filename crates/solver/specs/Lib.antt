@@ -1,3 +1,4 @@
+pub mod Standing
 pub mod Steps
 pub mod Searching
 pub mod Runs
@@ -5,3 +6,4 @@ pub mod Admission
 pub mod Solver
 pub mod Sitting
 pub mod Checking
+pub mod Derivations

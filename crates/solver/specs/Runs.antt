@@ -8,9 +8,9 @@ use Rattle.cells.specs.Cells.{cells_of, WellFormed}
 use Rattle.frames.specs.declared.frame.Frame.{Frame}
 use Rattle.frames.specs.Goals.{NextGoal}
 use Rattle.frames.specs.Points.{EndsAs}
-use Rattle.solver.specs.declared.standing.Standing.{Standing}
-use Rattle.solver.specs.declared.standing.Bounds.{Bounds}
-use Rattle.solver.specs.declared.standing.Finish.{Finish}
+use Rattle.solver.specs.Standing.{Standing}
+use Rattle.solver.specs.declared.bounds.Bounds.{Bounds}
+use Rattle.solver.specs.declared.ending.Finish.{Finish}
 use Rattle.solver.specs.Searching.{Ground, limits_of, outcome_of, frame_steps}
 
 -- no step stands, and the first goal of the list is next

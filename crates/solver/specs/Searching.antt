@@ -1,5 +1,5 @@
 -- The state of a search on the lists that it was lent, and what comes of it.
-use Rattle.std.specs.Prelude.{◌≡◌, ℕ, ◌+◌, ◌-◌, ◌*◌, ◌<◌, ◌≤◌, Bool, true, false, List, map, length, take, Some, None, Option}
+use Rattle.std.specs.Prelude.{◌≡◌, ℕ, ◌+◌, ◌-◌, ◌*◌, ◌<◌, ◌≤◌, Bool, List, map, length, take, Some, None, Ok, Err, Option, Result}
 use Rattle.std.specs.List.{AllByRecursion}
 use Rattle.theory.specs.Entries.{Entry}
 use Rattle.theory.specs.Records.{Replay}
@@ -18,10 +18,10 @@ use Rattle.frames.specs.declared.frame.Cursor.{Cursor}
 use Rattle.frames.specs.Tries.{first_cursor, NextTry}
 use Rattle.frames.specs.Levels.{Level}
 use Rattle.frames.specs.Points.{Searching, EndsAs}
-use Rattle.solver.specs.declared.standing.Moment.{Moment}
-use Rattle.solver.specs.declared.standing.Bounds.{Bounds}
-use Rattle.solver.specs.declared.standing.Ending.{Ending}
-use Rattle.solver.specs.declared.standing.Ending.TheVariants.{Granted, Failed, Spent, Full, Short}
+use Rattle.solver.specs.Standing.{Moment}
+use Rattle.solver.specs.declared.bounds.Bounds.{Bounds}
+use Rattle.solver.specs.declared.ending.Ending.{Ending}
+use Rattle.solver.specs.declared.ending.Ending.TheVariants.{Failed, Spent, Full, Short}
 
 -- all tries of a goal, if there is one
 abbrev pub FirstTries : Option Goal → Cursor → Type 0
@@ -36,24 +36,16 @@ abbrev pub frame_steps : List Frame → List T.Step
 frame_steps frames = map (λ f. step_of f.step) frames
 
 -- the outcome of a search, by how it ends, its count, and the steps that stand
-abbrev pub outcome_of : Ending → ℕ → List T.Step → Outcome
-outcome_of Granted n steps = granted n steps
-outcome_of Failed n steps = failed n
-outcome_of Spent n steps = spent n
-outcome_of Full n steps = full n
-outcome_of Short n steps = short n
+abbrev pub outcome_of : Result (Unit {0}) Ending → ℕ → List T.Step → Outcome
+outcome_of (Ok u) n steps = granted n steps
+outcome_of (Err Failed) n steps = failed n
+outcome_of (Err Spent) n steps = spent n
+outcome_of (Err Full) n steps = full n
+outcome_of (Err Short) n steps = short n
 
 -- how many turns a search has left at most: two for each try that it may make, and one for each step that stands
 abbrev pub turns_left : Bounds → Moment → ℕ
 turns_left b m = 2 * (b.budget - m.count) + m.at.depth
-
--- whether a record was found
-abbrev pub ends_granted : Ending → Bool
-ends_granted Granted = true
-ends_granted Failed = false
-ends_granted Spent = false
-ends_granted Full = false
-ends_granted Short = false
 
 module _ {L : Type 0} where
   -- the cells in use
@@ -93,7 +85,7 @@ module _ {L : Type 0} where
           m.cursor m.count (in_use cells m.at.extent) (take m.at.extent.trail work)
 
     -- the search has come to its end
-    pub record Finished (e : Ending) : Type 0 where
+    pub record Finished (e : Result (Unit {0}) Ending) : Type 0 where
       pub basis : Ground goals b cells work frames
       pub filled : Filled b cells work m.at.extent
       pub depth : m.at.depth ≤ b.steps
@@ -104,23 +96,19 @@ module _ {L : Type 0} where
       pub level : Level book goals b.first cells₀ frames m.at.depth replay steps
           (in_use cells m.at.extent) (take m.at.extent.trail work)
 
-  -- a step was taken back, or none stood
-  abbrev pub SteppedBack : (L → L → Bool) → List (Entry L) → List ℕ → Bounds → List (C.Cell L) → Bool →
-      List (Cell L) → List ℕ → List Frame → Moment → List (Cell L) → Moment → Type 0
-  SteppedBack alike book goals b cells₀ true cells work frames m cells' m' =
-      Running alike book goals b cells₀ cells' work frames m' × (turns_left b m' < turns_left b m)
-  SteppedBack alike book goals b cells₀ false cells work frames m cells' m' =
-      (m.at.depth ≡ 0) × (cells' ≡ cells) × (m' ≡ m)
-
-  -- the search goes on after a try, or ends before it
-  abbrev pub Tried : (L → L → Bool) → List (Entry L) → List ℕ → Bounds → List (C.Cell L) → Option Ending → Moment →
+  -- the search goes on after a turn, or comes to its end
+  abbrev pub Turned : (L → L → Bool) → List (Entry L) → List ℕ → Bounds → List (C.Cell L) → Result (Unit {0}) Ending → Moment →
       List (Cell L) → List ℕ → List Frame → Moment → Type 0
-  Tried alike book goals b cells₀ None m cells' work' frames' m' =
+  Turned alike book goals b cells₀ (Ok u) m cells' work' frames' m' =
       Running alike book goals b cells₀ cells' work' frames' m' × (turns_left b m' < turns_left b m)
-  Tried alike book goals b cells₀ (Some e) m cells' work' frames' m' =
-      Finished alike book goals b cells₀ cells' work' frames' m' e
+  Turned alike book goals b cells₀ (Err e) m cells' work' frames' m' =
+      Finished alike book goals b cells₀ cells' work' frames' m' (Err e)
 
   -- the goal is to be taken, and this is its next try, if any is left
   pub record Facing (book : List (Entry L)) (m : Moment) (goal : Goal) (x : Option Step) : Type 0 where
     pub taken : m.at.goal ≡ Some goal
     pub try : NextTry book goal.inner m.cursor x
+
+  -- the goal is to be taken, and no try of it is left
+  abbrev pub Exhausted : List (Entry L) → Moment → Type 0
+  Exhausted book m = (goal : Goal) × Facing book m goal None

@@ -9,7 +9,7 @@ use Rattle.slate.specs.Refusals.{refusal_of}
 use Rattle.frames.specs.declared.frame.Frame.{Frame}
 use Rattle.solver.specs.declared.solved.Solved.{Solved}
 use Rattle.solver.specs.declared.solved.Solved.TheVariants.{Granted, Failed}
-use Rattle.solver.specs.declared.standing.Finish.{Finish}
+use Rattle.solver.specs.declared.ending.Finish.{Finish}
 use Rattle.solver.specs.Searching.{frame_steps, outcome_of}
 
 -- the answer of solve; the record of a grant stands in the first steps of the record list

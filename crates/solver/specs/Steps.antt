@@ -11,7 +11,7 @@ use Rattle.frames.specs.declared.frame.Goal.{Goal}
 use Rattle.frames.specs.declared.frame.Frame.{Frame}
 use Rattle.frames.specs.Goals.{above, Current, NextGoal}
 use Rattle.frames.specs.Levels.{size_of}
-use Rattle.solver.specs.declared.standing.Standing.{Standing}
+use Rattle.solver.specs.Standing.{Standing}
 
 -- the head of an entry, if there is such an entry
 abbrev pub head_in : {V : Type 0} → Option (Entry V) → ℕ

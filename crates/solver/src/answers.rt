@@ -1,9 +1,9 @@
 // The answers of single calls, as a sitting collects them.
-ghost use Rattle.std.specs.Prelude.{◌≡◌, length, IfOk};
+ghost use Rattle.std.specs.Prelude.{◌≡◌, length, IfOk, MatchResult};
+ghost use Rattle.std.specs.Result.{ForOk};
+ghost use Rattle.calls.specs.declared.answer.Answer.TheVariants.{Wrote, Refused};
 ghost use Rattle.calls.specs.Answers.{answer_of};
-ghost use Rattle.slate.specs.Slates.{wrote_or, accepted_or, same_or};
 ghost use Rattle.solver.specs.Solver.{solved_or, RecordHolds};
-ghost use Rattle.solver.specs.Checking.{passes_or};
 
 use crate::solved::Solved;
 use calls::answer::Answer;
@@ -12,44 +12,18 @@ use slate::refusal::Refusal;
 use std::alloc::{AllocError, Global};
 
 // The answer of a write.
-pub(crate) fn wrote(res: Result<u16, Refusal>) -> Answer
-    ensures { answer_of result ≡ wrote_or res }
+pub(crate) fn wrote(cell: u16) -> Answer
+    ensures { result ≡ Wrote cell }
 {
-    match res {
-        Ok(cell) => Answer::Wrote { cell },
-        Err(refusal) => Answer::Refused(refusal),
-    }
+    Answer::Wrote { cell }
 }
 
-// The answer of an equate.
-pub(crate) fn equated(res: Result<(), Refusal>) -> Answer
-    ensures { answer_of result ≡ accepted_or res }
+// The answer of a call: that of what it gives, or that it is refused.
+pub(crate) fn answered<T, F: FnOnce(T) -> Answer>(res: Result<T, Refusal>, given: F) -> Answer
+    requires { ForOk res (λ x. F.pre given x) }
+    ensures { MatchResult res (λ x. F.post given x result) (λ e. result ≡ Refused e) }
 {
-    match res {
-        Ok(()) => Answer::Accepted,
-        Err(refusal) => Answer::Refused(refusal),
-    }
-}
-
-// The answer of a compare.
-pub(crate) fn compared(res: Result<bool, Refusal>) -> Answer
-    ensures { answer_of result ≡ same_or res }
-{
-    match res {
-        Ok(true) => Answer::Same,
-        Ok(false) => Answer::Different,
-        Err(refusal) => Answer::Refused(refusal),
-    }
-}
-
-// The answer of a check.
-pub(crate) fn passed(res: Result<(), Refusal>) -> Answer
-    ensures { answer_of result ≡ passes_or res }
-{
-    match res {
-        Ok(()) => Answer::Passed,
-        Err(refusal) => Answer::Refused(refusal),
-    }
+    res.map_or_else(Answer::Refused, given)
 }
 
 // The answer of a solve, with the record of a grant.
@@ -63,7 +37,7 @@ pub(crate) fn solved(
 {
     match res {
         Ok(Solved::Granted { count, steps: n }) => {
-            let found = steps[0..n].iter().copied().collect(heap)?;
+            let found = steps[0..n].to_vec(heap)?;
             Ok(Answer::Granted {
                 count,
                 steps: found,

@@ -2,20 +2,20 @@
 ghost use Rattle.std.specs.Prelude.{◌≡◌, ◌≤◌, ◌++◌, map, length, take};
 ghost use Rattle.solver.specs.Solver.{steps_written, Concluded};
 
+use crate::ending::{Ending, Finish};
 use crate::solved::Solved;
-use crate::standing::{Ending, Finish};
 use calls::step::Step;
 use frames::frame::Frame;
 use slate::refusal::Refusal;
 
-// Writes the steps that stand into the first steps of the record list.
-fn write_record(steps: &mut [Step], frames: &[Frame], depth: usize)
-    requires room { depth ≤ length steps.old }
-    requires framed { depth ≤ length frames.now }
-    ensures { steps.new ≡ steps_written (take depth frames.now) steps.old }
+// Writes the steps of the frames into the first steps of the record list.
+fn write_record(steps: &mut [Step], frames: &[Frame])
+    requires { length frames.now ≤ length steps.old }
+    ensures { steps.new ≡ steps_written frames.now steps.old }
 {
-    for i in 0..depth {
-        steps[i] = frames[i].step;
+    // `iter_mut` beside the frames was tried, and got no proof.
+    for (i, frame) in frames.iter().enumerate() {
+        steps[i] = frame.step;
     }
 }
 
@@ -27,16 +27,16 @@ pub(crate) fn conclude(end: Finish, steps: &mut [Step], frames: &[Frame]) -> Res
 {
     let count = end.count;
     match end.ending {
-        Ending::Granted => {
-            write_record(steps, frames, end.depth);
+        Ok(()) => {
+            write_record(steps, &frames[..end.depth]);
             Ok(Solved::Granted {
                 count,
                 steps: end.depth,
             })
         }
-        Ending::Failed => Ok(Solved::Failed { count }),
-        Ending::Spent => Err(Refusal::SpentAfter { count }),
-        Ending::Full => Err(Refusal::FullAfter { count }),
-        Ending::Short => Err(Refusal::NoCellAfter { count }),
+        Err(Ending::Failed) => Ok(Solved::Failed { count }),
+        Err(Ending::Spent) => Err(Refusal::SpentAfter { count }),
+        Err(Ending::Full) => Err(Refusal::FullAfter { count }),
+        Err(Ending::Short) => Err(Refusal::NoCellAfter { count }),
     }
 }

@@ -22,14 +22,15 @@ pub(crate) fn all_atoms<L: Leaf>(
     ensures { AllAtoms (cells_of (take used cells.now)) goals.now result }
 {
     for goal in goals {
-        if !node_at_root(cells, used, *goal) {
+        if !node_at_root(&cells[..used], *goal) {
             return Err(Refusal::NotAnAtom { cell: *goal });
         }
     }
     Ok(())
 }
 
-// Refuses goals that cannot be taken, and lists that are too short.
+// Refuses goals that cannot be taken, and lists that are too short. The cells are taken as the search takes them, and not as
+// a slate, so that all that speaks of them speaks of one list.
 pub(crate) fn admit<L: Leaf>(
     cells: &[Cell<L>],
     used: usize,

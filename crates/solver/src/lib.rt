@@ -3,8 +3,11 @@
 #![tactic(auto)]
 
 mod answers;
+mod bounds;
 pub mod check;
 mod conclude;
+mod derivation;
+mod ending;
 mod input;
 mod limits;
 mod make;
@@ -15,5 +18,3 @@ mod search;
 pub mod sit;
 pub mod solve;
 pub mod solved;
-mod standing;
-mod steps;

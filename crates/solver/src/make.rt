@@ -4,7 +4,7 @@ ghost use Rattle.solver.specs.Sitting.{lent, Made};
 ghost use Rattle.calls.specs.Steps.{steps_of};
 ghost use Rattle.theory.specs.Calls.{solve as solving, check as checking};
 
-use crate::answers::{compared, equated, passed, solved, wrote};
+use crate::answers::{answered, solved, wrote};
 use crate::check::check;
 use crate::solve::solve;
 use book::interface::Book;
@@ -17,6 +17,7 @@ use slate::slate::Slate;
 use std::alloc::{AllocError, Global};
 
 // Solves, and collects the record of a grant.
+// The lists stay three parameters: a struct that lends on parts of its lists in another was tried, and gets no proof.
 fn make_solve<L: Leaf, B: Book<L>>(
     heap: Global,
     slate: &mut Slate<L>,
@@ -50,16 +51,17 @@ pub(crate) fn make_call<L: Leaf, B: Book<L>>(
         call.now) result }
 {
     match call {
-        Call::Open => Ok(wrote(slate.open())),
-        Call::Leaf(value) => Ok(wrote(slate.leaf(*value))),
-        Call::Node { symbol, args } => Ok(wrote(slate.node(*symbol, args.as_slice()))),
+        Call::Open => Ok(answered(slate.open(), wrote)),
+        Call::Leaf(value) => Ok(answered(slate.leaf(*value), wrote)),
+        Call::Node { symbol, args } => Ok(answered(slate.node(*symbol, args.as_slice()), wrote)),
         Call::Equate {
             left,
             right,
             work: n,
         } => {
             let room = (*n).min(work.len());
-            Ok(equated(slate.equate(&mut work[0..room], *left, *right)))
+            let result = slate.equate(&mut work[0..room], *left, *right);
+            Ok(answered(result, |()| Answer::Accepted))
         }
         Call::Compare {
             left,
@@ -67,7 +69,15 @@ pub(crate) fn make_call<L: Leaf, B: Book<L>>(
             work: n,
         } => {
             let room = (*n).min(work.len());
-            Ok(compared(slate.compare(&mut work[0..room], *left, *right)))
+            let result = slate.compare(&mut work[0..room], *left, *right);
+            Ok(answered(
+                result,
+                |same| if same {
+                    Answer::Same
+                } else {
+                    Answer::Different
+                },
+            ))
         }
         Call::Solve {
             goals,
@@ -109,7 +119,7 @@ pub(crate) fn make_call<L: Leaf, B: Book<L>>(
                 work,
                 frames,
             );
-            Ok(passed(result))
+            Ok(answered(result, |()| Answer::Passed))
         }
     }
 }

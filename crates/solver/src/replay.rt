@@ -5,66 +5,61 @@ ghost use Rattle.cells.specs.Cells.{cells_of};
 ghost use Rattle.calls.specs.Steps.{steps_of};
 ghost use Rattle.solver.specs.Runs.{Ready, Begun};
 ghost use Rattle.solver.specs.Checking.{passes_or, bounds_of, Replays};
+ghost use Rattle.solver.specs.Derivations.{standing_of, Continues};
 
-use crate::rules::broken_rule;
-use crate::standing::Standing;
-use crate::steps::{cells_needed, take_step};
+use crate::derivation::Derivation;
 use book::interface::Book;
 use calls::step::Step;
-use cells::cell::Cell;
-use frames::frame::Frame;
 use leaf::kind::Leaf;
-use slate::refusal::Refusal;
+use slate::refusal::{Refusal, Rule};
 
-// Replays a record from its beginning: passed, or the first bad step and the rule that it breaks, or that an instance
-// does not fit. So many of the cells are the slate's.
-pub(crate) fn replay<L: Leaf, B: Book<L>>(
-    book: &B,
-    goals: &[u16],
-    room: usize,
-    cells: &mut [Cell<L>],
-    work: &mut [u16],
-    frames: &mut [Frame],
-    record: &[Step],
-    at: &mut Standing,
-) -> Result<(), Refusal>
-    requires ready { Ready goals.now (bounds_of (length «record».now) room at.old.extent.used)
-        cells.old work.old frames.old }
-    requires begun { Begun (B.Book.entries book.now) goals.now frames.old at.old.extent.used at.old }
-    ensures { Replays L.Leaf.alike (B.Book.entries book.now) goals.now
-        (bounds_of (length «record».now) room at.old.extent.used)
-        (cells_of (take at.old.extent.used cells.old))
-        (checks L.Leaf.alike (B.Book.entries book.now) at.old.extent.used
-        (room - at.old.extent.used) (cells_of (take at.old.extent.used cells.old))
-        goals.now (steps_of «record».now))
-        cells.new work.new frames.new at.new (passes_or result) }
-{
-    for (i, step) in record.iter().enumerate() {
-        let here = i as u16;
-        let Some(goal) = at.goal else {
-            return Err(Refusal::Unlawful {
-                step: here,
-                rule: 2,
-            });
-        };
-        if let Some(rule) = broken_rule(book, frames, goal, *step) {
-            return Err(Refusal::Unlawful { step: here, rule });
+impl<L: Leaf, B: Book<L>> Derivation<'_, '_, B, L> {
+    // Replays a record from its beginning: passed, or the first bad step and the rule that it breaks, or that an
+    // instance does not fit. So many of the cells are the slate's.
+    pub(crate) fn replay(&mut self, room: usize, record: &[Step]) -> Result<(), Refusal>
+        requires ready { Ready self.old.goals.now
+            (bounds_of (length «record».now) room self.old.store.now.extent.used)
+            self.old.store.now.«cells».now self.old.store.now.work.now self.old.«frames».now }
+        requires begun { Begun (B.Book.entries self.old.book.now) self.old.goals.now self.old.«frames».now
+            self.old.store.now.extent.used (standing_of self.old) }
+        ensures replays { Replays L.PartialEq.eq (B.Book.entries self.old.book.now) self.old.goals.now
+            (bounds_of (length «record».now) room self.old.store.now.extent.used)
+            (cells_of (take self.old.store.now.extent.used self.old.store.now.«cells».now))
+            (checks L.PartialEq.eq (B.Book.entries self.old.book.now) self.old.store.now.extent.used
+            (room - self.old.store.now.extent.used)
+            (cells_of (take self.old.store.now.extent.used self.old.store.now.«cells».now))
+            self.old.goals.now (steps_of «record».now))
+            self.new.store.now.«cells».now self.new.store.now.work.now self.new.«frames».now
+            (standing_of self.new) (passes_or result) }
+        ensures same { Continues self.old self.new }
+    {
+        for (i, step) in record.iter().enumerate() {
+            let here = i as u16;
+            let Some(goal) = self.goal else {
+                return Err(Refusal::Unlawful {
+                    step: here,
+                    rule: Rule::GoalAndMode,
+                });
+            };
+            if let Some(rule) = self.broken_rule(goal, *step) {
+                return Err(Refusal::Unlawful { step: here, rule });
+            }
+            if room - self.store.extent.used < self.cells_needed(*step) {
+                return Err(Refusal::NoCell);
+            }
+            if !self.take_step(goal, *step) {
+                return Err(Refusal::Unlawful {
+                    step: here,
+                    rule: Rule::Reading,
+                });
+            }
         }
-        if room - at.extent.used < cells_needed(book, *step) {
-            return Err(Refusal::NoCell);
+        match self.goal {
+            None => Ok(()),
+            Some(_) => Err(Refusal::Unlawful {
+                step: record.len() as u16,
+                rule: Rule::NonePending,
+            }),
         }
-        if !take_step(book, goals, cells, work, frames, at, goal, *step) {
-            return Err(Refusal::Unlawful {
-                step: here,
-                rule: 7,
-            });
-        }
-    }
-    match at.goal {
-        None => Ok(()),
-        Some(_) => Err(Refusal::Unlawful {
-            step: record.len() as u16,
-            rule: 6,
-        }),
     }
 }

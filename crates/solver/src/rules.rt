@@ -2,40 +2,40 @@
 ghost use Rattle.frames.specs.Tries.{Chained};
 ghost use Rattle.solver.specs.Checking.{Tested};
 
+use crate::derivation::Derivation;
 use book::interface::Book;
 use calls::step::Step;
-use frames::frame::{Frame, Goal};
+use frames::frame::Goal;
+use frames::mode::Mode;
 use frames::tries::{is_clause, on_path};
 use leaf::kind::Leaf;
+use slate::refusal::Rule;
 
-// The rule that a step breaks by its form, if any: 3, 4 or 5 at mode 1, 2 or 3, and 2 at any other mode.
-pub(crate) fn broken_rule<L: Leaf, B: Book<L>>(
-    book: &B,
-    frames: &[Frame],
-    goal: Goal,
-    step: Step,
-) -> Option<u8>
-    requires { Chained frames.now goal.parent }
-    ensures { Tested (B.Book.entries book.now) frames.now goal step result }
-{
-    let number = step.number as usize;
-    match step.mode {
-        1 => {
-            if goal.inner || !is_clause(book, number) {
-                return Some(3);
+impl<L: Leaf, B: Book<L>> Derivation<'_, '_, B, L> {
+    // The rule that a step breaks by its form, if any: that of its mode, or that it has one of the three modes.
+    pub(crate) fn broken_rule(&self, goal: Goal, step: Step) -> Option<Rule>
+        requires { Chained self.now.«frames».now goal.parent }
+        ensures { Tested (B.Book.entries self.now.book.now) self.now.«frames».now goal step result }
+    {
+        let number = step.number as usize;
+        match Mode::try_from(step.mode) {
+            Ok(Mode::Clause) => {
+                if goal.inner || !is_clause(self.book, number) {
+                    return Some(Rule::ClauseForOuter);
+                }
             }
-        }
-        2 => {
-            if goal.inner || !on_path(frames, goal.parent, step.number) {
-                return Some(4);
+            Ok(Mode::Loop) => {
+                if goal.inner || !on_path(self.frames, goal.parent, step.number) {
+                    return Some(Rule::LoopOfOuter);
+                }
             }
-        }
-        3 => {
-            if !goal.inner || book.len() <= number {
-                return Some(5);
+            Ok(Mode::Entry) => {
+                if !goal.inner || self.book.len() <= number {
+                    return Some(Rule::EntryForInner);
+                }
             }
+            Err(_) => return Some(Rule::GoalAndMode),
         }
-        _ => return Some(2),
+        None
     }
-    None
 }

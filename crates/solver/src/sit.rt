@@ -15,6 +15,7 @@ use std::alloc::{AllocError, Global};
 
 // Makes the calls one after another, from a wiped slate on, refused ones too, and collects every answer. Each is lent as
 // much of the record list, the work list and the frames as it asks for, but no more than there is.
+// The lists stay parameters, and no struct, since a sitting lends parts of them to each call (see `make_solve`).
 pub fn sit<L: Leaf, B: Book<L>>(
     heap: Global,
     slate: &mut Slate<L>,

@@ -4,12 +4,12 @@ ghost use Rattle.theory.specs.Calls.{solve as solving};
 ghost use Rattle.slate.specs.Slates.{KeptOver};
 ghost use Rattle.solver.specs.Solver.{solved_or, RecordLeft};
 
+use crate::bounds::Bounds;
 use crate::conclude::conclude;
 use crate::input::admit;
 use crate::limits::{MOST_GOALS, MOST_STEPS};
 use crate::run::run;
 use crate::solved::Solved;
-use crate::standing::Bounds;
 use book::interface::Book;
 use calls::step::Step;
 use frames::frame::Frame;
@@ -20,6 +20,7 @@ use slate::slate::Slate;
 
 // Searches for a record of the goals, with so many tries. A grant writes the record into the first steps of the record
 // list, and leaves the bindings on the slate and each instance in the next cells.
+// The lists stay parameters, and no struct, since a sitting lends parts of them to each call (see `make_solve`).
 pub fn solve<L: Leaf, B: Book<L>>(
     slate: &mut Slate<L>,
     book: &B,
@@ -55,7 +56,7 @@ pub fn solve<L: Leaf, B: Book<L>>(
     let end = run(
         book,
         goals,
-        &bounds,
+        bounds,
         slate.cells.as_mut_slice(),
         work,
         frames,

@@ -1,17 +1,14 @@
-use Rattle.std.proofs.Common.{◌≡◌, ℕ, suc, ◌+◌, ◌≤◌, List, get_or, sym, ap, subst, le_refl, add-one, arith}
+use Rattle.std.proofs.Common.{◌≡◌, ℕ, suc, ◌+◌, ◌≤◌, List, get_or, sym, ap, subst, add-one, arith}
 use Rattle.theory.specs.Records as T
 use Rattle.frames.specs.declared.frame.Frame.{Frame}
 use Rattle.frames.specs.Goals.{above, Pends, Pending, First}
 use Rattle.frames.proofs.Following.{unset, frame_at, found, onward, last_goals}
 use Rattle.frames.proofs.goals.next_goal.Goals as goal
 
-pub loop-parent-init : goal.loop-parent-init
-loop-parent-init g c = (c.requires, le_refl (above c.args.from), λ chain l p. (chain, p))
-
 pub bounds-frames-step : goal.bounds-frames-step
 bounds-frames-step g c =
     let book = g.B.Book.entries c.args.book.now in
-    (frame_at book (g.B.Book.rules c.args.book.now) c.args.goals.now c.args.frames.now c.in-Some.step
+    (frame_at book (g.met.B.Book.rules c.args.book.now) c.args.goals.now c.args.frames.now c.in-Some.step
     c.loop-parent.at
     (subst (λ p. Pending book c.args.goals.now c.args.frames.now p c.loop-parent.at) c.in-Some.is
     c.loop-parent.invariant.0)).0
@@ -19,7 +16,7 @@ bounds-frames-step g c =
 pub goal_of_step-requires : goal.goal_of_step-requires
 goal_of_step-requires g c =
     let book = g.B.Book.entries c.args.book.now in
-    (frame_at book (g.B.Book.rules c.args.book.now) c.args.goals.now c.args.frames.now c.in-Some.step
+    (frame_at book (g.met.B.Book.rules c.args.book.now) c.args.goals.now c.args.frames.now c.in-Some.step
     c.loop-parent.at
     (subst (λ p. Pending book c.args.goals.now c.args.frames.now p c.loop-parent.at) c.in-Some.is
     c.loop-parent.invariant.0)).2.small
@@ -27,7 +24,7 @@ goal_of_step-requires g c =
 pub returns-in-Some-goal_of_step : goal.returns-in-Some-goal_of_step
 returns-in-Some-goal_of_step g c chain l p =
     let book = g.B.Book.entries c.args.book.now in
-    let rules = g.B.Book.rules c.args.book.now in
+    let rules = g.met.B.Book.rules c.args.book.now in
     let goals = c.args.goals.now in
     let frames = c.args.frames.now in
     let here = c.in-Some.is in
@@ -43,7 +40,7 @@ returns-in-Some-goal_of_step g c chain l p =
 pub overflow_add-at : goal.overflow_add-at
 overflow_add-at g c =
     let book = g.B.Book.entries c.args.book.now in
-    let h = (frame_at book (g.B.Book.rules c.args.book.now) c.args.goals.now c.args.frames.now
+    let h = (frame_at book (g.met.B.Book.rules c.args.book.now) c.args.goals.now c.args.frames.now
     c.in-Some.step c.loop-parent.at
     (subst (λ p. Pending book c.args.goals.now c.args.frames.now p c.loop-parent.at) c.in-Some.is
     c.loop-parent.invariant.0)).2.few in
@@ -52,7 +49,7 @@ overflow_add-at g c =
 pub loop-parent-smaller : goal.loop-parent-smaller
 loop-parent-smaller g c =
     let book = g.B.Book.entries c.args.book.now in
-    let h = (frame_at book (g.B.Book.rules c.args.book.now) c.args.goals.now c.args.frames.now
+    let h = (frame_at book (g.met.B.Book.rules c.args.book.now) c.args.goals.now c.args.frames.now
     c.in-Some.step c.loop-parent.at
     (subst (λ p. Pending book c.args.goals.now c.args.frames.now p c.loop-parent.at) c.in-Some.is
     c.loop-parent.invariant.0)).2.lower in
@@ -62,7 +59,7 @@ loop-parent-smaller g c =
 pub loop-parent-preserved : goal.loop-parent-preserved
 loop-parent-preserved g c =
     let book = g.B.Book.entries c.args.book.now in
-    let rules = g.B.Book.rules c.args.book.now in
+    let rules = g.met.B.Book.rules c.args.book.now in
     let goals = c.args.goals.now in
     let frames = c.args.frames.now in
     let here = c.in-Some.is in
@@ -93,6 +90,6 @@ returns g c chain l p =
     let frames = c.args.frames.now in
     let w = c.loop-parent.invariant.2 chain l p in
     subst (λ r. First book goals frames c.args.from r l) (sym c.goal_of_list.ensures)
-    (last_goals book (g.B.Book.rules c.args.book.now) goals frames w.0 c.loop-parent.at l
+    (last_goals book (g.met.B.Book.rules c.args.book.now) goals frames w.0 c.loop-parent.at l
     c.loop-parent.invariant.0.2
     (subst (λ q. Pends book goals frames w.0 q c.loop-parent.at l) c.in_default.is w.1) c.args.from)

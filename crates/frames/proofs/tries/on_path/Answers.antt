@@ -1,11 +1,8 @@
-use Rattle.std.proofs.Common.{◌≡◌, suc, refl, ap, ◌∙◌, subst, arith}
+use Rattle.std.proofs.Common.{◌≡◌, suc, ap, ◌∙◌, subst, arith}
 use Rattle.frames.specs.Goals.{above}
 use Rattle.frames.specs.Tries.{Chain}
 use Rattle.frames.proofs.Climbing.{chain_at, path_here, path_on, path_end}
 use Rattle.frames.proofs.tries.on_path.Goals as goal
-
-pub loop-next-init : goal.loop-next-init
-loop-next-init c = (c.requires, λ chain p. (chain, p, refl))
 
 pub returns-then-step-number : goal.returns-then-step-number
 returns-then-step-number c chain p =

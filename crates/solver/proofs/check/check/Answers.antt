@@ -1,15 +1,14 @@
-use Rattle.std.proofs.Common.{◌≡◌, ◌-◌, ◌≤◌, min, ◌++◌, length, take, drop, Ok, Err, vec_items, vec_len, sym, refl, ap, ◌∙◌, subst, inl, inr}
+use Rattle.std.proofs.Common.{◌≡◌, ◌-◌, min, ◌++◌, length, take, drop, Ok, Err, vec_items, vec_len, sym, refl, ap, ◌∙◌, subst, inl, inr}
 use base.Stored.{Coded-set}
 use Rattle.std.proofs.lemmas.Result.{err_from_is_err_and}
 use Rattle.theory.specs.Calls.{check}
 use Rattle.theory.specs.Answers.{capacity, answer_to}
 use Rattle.searching.specs.Checking.{checks}
 use Rattle.cells.specs.Cells.{cells_of, WellFormed}
-use Rattle.cells.proofs.Sameness.{decided}
 use Rattle.calls.specs.Steps.{steps_of}
 use Rattle.slate.specs.Slates.{in_use, KeptOver}
-use Rattle.slate.proofs.Next.{refill}
-use Rattle.slate.proofs.Questions.{sound_of, part_of}
+use Rattle.cells.proofs.Front.{refill}
+use Rattle.slate.proofs.Questions.{sound_of}
 use Rattle.solver.specs.Admission.{Admitted}
 use Rattle.solver.specs.Runs.{Ready}
 use Rattle.solver.specs.Checking.{passes_or, bounds_of}
@@ -18,46 +17,37 @@ use Rattle.solver.proofs.check.check.Goals as goal
 use Rattle.solver.proofs.check.check.Goals.{then-goals-gt-MOST_GOALS-via-then-goals-gt-MOST_GOALS}
 use Rattle.solver.proofs.check.check.Goals.{then-goals-gt-MOST_GOALS-via-else-goals-gt-MOST_GOALS+then-record-gt-MOST_STEPS}
 
-pub returns-then-goals-gt-MOST_GOALS : goal.returns-then-goals-gt-MOST_GOALS
-returns-then-goals-gt-MOST_GOALS g c = record {
-  kept =
-      long_kept (Coded-set g.row.L.coded) g.L.Leaf.alike (decided g.L.Leaf.alike g.met.L.Leaf.decides)
-      (g.B.Book.entries c.args.book.now) (g.B.Book.rules c.args.book.now) c.args.slate.now
-      c.args.goals.now c.args.record.now (length c.args.work.now) (length c.args.frames.now)
-      (elim c.then-goals-gt-MOST_GOALS.branch [
-        | then-goals-gt-MOST_GOALS-via-then-goals-gt-MOST_GOALS w ↦ inl w.if-goals-gt-MOST_GOALS.true
-        | then-goals-gt-MOST_GOALS-via-else-goals-gt-MOST_GOALS+then-record-gt-MOST_STEPS w ↦ inr w.if-record-gt-MOST_STEPS.true
-      ]);
-  unaltered = refl;
-}
+pub returns-then-goals-gt-MOST_GOALS-clause-kept : goal.returns-then-goals-gt-MOST_GOALS-clause-kept
+returns-then-goals-gt-MOST_GOALS-clause-kept g c =
+    long_kept (Coded-set g.row.L.coded) g.L.PartialEq.eq g.met.L.Leaf.decides
+    (g.B.Book.entries c.args.book.now) (g.met.B.Book.rules c.args.book.now) c.args.slate.now
+    c.args.goals.now c.args.record.now (length c.args.work.now) (length c.args.frames.now)
+    (elim c.then-goals-gt-MOST_GOALS.branch [
+      | then-goals-gt-MOST_GOALS-via-then-goals-gt-MOST_GOALS w ↦ inl w.if-goals-gt-MOST_GOALS.true
+      | then-goals-gt-MOST_GOALS-via-else-goals-gt-MOST_GOALS+then-record-gt-MOST_STEPS w ↦ inr w.if-record-gt-MOST_STEPS.true
+    ])
 
-pub admit-requires : goal.admit-requires
-admit-requires g c =
+pub admit-requires-clause-sound : goal.admit-requires-clause-sound
+admit-requires-clause-sound g c =
     let s = c.args.slate.now in
-    record {
-      part = subst (λ l. s.used ≤ length l) (sym c.as_slice.ensures.value) (part_of (Coded-set g.row.L.coded) s);
-      sound = subst (λ l. WellFormed (take s.used l)) (sym c.as_slice.ensures.value)
-          (sound_of (Coded-set g.row.L.coded) s);
-    }
+    subst (λ l. WellFormed (take s.used l)) (sym c.as_slice.ensures.value)
+    (sound_of (Coded-set g.row.L.coded) s)
 
-pub returns-in_err-admit : goal.returns-in_err-admit
-returns-in_err-admit g c =
+pub returns-in_err-admit-clause-kept : goal.returns-in_err-admit-clause-kept
+returns-in_err-admit-clause-kept g c =
     let s = c.args.slate.now in
     let p = err_from_is_err_and c.from_residual.result c.from_residual.ensures.1 in
     let e : c.from_residual.result ≡ Err c.in_err-admit.field-0.0 = cc (p.1, p.2) in
-    record {
-      kept = subst (λ r. KeptOver (g.B.Book.entries c.args.book.now) s s
-          (check c.args.goals.now (steps_of c.args.record.now) (length c.args.work.now)
-          (length c.args.frames.now)) (passes_or r)) (sym e)
-          (refused_kept (Coded-set g.row.L.coded) g.L.Leaf.alike (decided g.L.Leaf.alike g.met.L.Leaf.decides)
-          (g.B.Book.entries c.args.book.now) (g.B.Book.rules c.args.book.now) s
-          c.args.goals.now c.args.record.now (length c.args.work.now) (length c.args.frames.now)
-          c.if-goals-gt-MOST_GOALS.false c.if-record-gt-MOST_STEPS.false c.in_err-admit.field-0.0
-          (over_slate {U = Unit {0}} s c.as_slice.result.now c.as_slice.ensures.value c.args.goals.now
-          (length c.args.work.now) (length c.args.frames.now) (length c.args.record.now) (Err _)
-          c.in_err-admit.ensures));
-      unaltered = refl;
-    }
+    subst (λ r. KeptOver (g.B.Book.entries c.args.book.now) s s
+    (check c.args.goals.now (steps_of c.args.record.now) (length c.args.work.now)
+    (length c.args.frames.now)) (passes_or r)) (sym e)
+    (refused_kept (Coded-set g.row.L.coded) g.L.PartialEq.eq g.met.L.Leaf.decides
+    (g.B.Book.entries c.args.book.now) (g.met.B.Book.rules c.args.book.now) s
+    c.args.goals.now c.args.record.now (length c.args.work.now) (length c.args.frames.now)
+    c.if-goals-gt-MOST_GOALS.false c.if-record-gt-MOST_STEPS.false c.in_err-admit.field-0.0
+    (over_slate {U = Unit {0}} s c.as_slice.result.now c.as_slice.ensures.value c.args.goals.now
+    (length c.args.work.now) (length c.args.frames.now) (length c.args.record.now) (Err _)
+    c.in_err-admit.ensures))
 
 pub replay_and_retract-requires : goal.replay_and_retract-requires
 replay_and_retract-requires g c =
@@ -77,23 +67,10 @@ replay_and_retract-requires g c =
     (ready_for s c.args.goals.now c.args.record.now c.args.work.now c.args.frames.now
     c.if-goals-gt-MOST_GOALS.false c.if-record-gt-MOST_STEPS.false ok (sound_of (Coded-set g.row.L.coded) s)))
 
-pub invariant_of-slate : goal.invariant_of-slate
-invariant_of-slate g c =
+pub returns-clause-kept : goal.returns-clause-kept
+returns-clause-kept g c =
     let s = c.args.slate.now in
-    let ws = c.replay_and_retract.new.cells in
-    record {
-      within = s.within;
-      few = s.few;
-      sound = ∣ subst (λ l. WellFormed (take s.used l))
-          (sym (refill (vec_len s.cells) (vec_items s.cells) ws s.cells.ok.0
-          (c.replay_and_retract.ensures.as_many ∙ ap length c.as_mut_slice.ensures.value)))
-          c.replay_and_retract.ensures.sound ∣₁;
-    }
-
-pub returns : goal.returns
-returns g c =
-    let s = c.args.slate.now in
-    let alike = g.L.Leaf.alike in
+    let alike = g.L.PartialEq.eq in
     let book = g.B.Book.entries c.args.book.now in
     let ws = c.replay_and_retract.new.cells in
     let left : cells_of (take s.used (take (vec_len s.cells) (ws ++ drop (length ws) (vec_items s.cells)))) ≡
@@ -108,17 +85,13 @@ returns g c =
     over_slate {U = Unit {0}} s c.as_slice.result.now c.as_slice.ensures.value c.args.goals.now
     (length c.args.work.now) (length c.args.frames.now) (length c.args.record.now) (Ok (tt {0}))
     c.in_ok-admit.ensures in
-    record {
-      kept =
-          replayed_kept (Coded-set g.row.L.coded) alike (decided alike g.met.L.Leaf.decides) book
-          (g.B.Book.rules c.args.book.now) s c.args.goals.now c.args.record.now
-          (length c.args.work.now) (length c.args.frames.now) c.if-goals-gt-MOST_GOALS.false
-          c.if-record-gt-MOST_STEPS.false s.used ok _ (passes_or c.replay_and_retract.result)
-          (c.replay_and_retract.ensures.answer
-          ∙ ap (λ k. answer_to (checks alike book s.used (k - s.used)
-          (cells_of (take s.used c.as_mut_slice.result.now)) c.args.goals.now (steps_of c.args.record.now))) room
-          ∙ ap (λ l. answer_to (checks alike book s.used (capacity (vec_len s.cells) - s.used)
-          (cells_of (take s.used l)) c.args.goals.now (steps_of c.args.record.now))) c.as_mut_slice.ensures.value)
-          left refl;
-      unaltered = left;
-    }
+    replayed_kept (Coded-set g.row.L.coded) alike g.met.L.Leaf.decides book
+    (g.met.B.Book.rules c.args.book.now) s c.args.goals.now c.args.record.now
+    (length c.args.work.now) (length c.args.frames.now) c.if-goals-gt-MOST_GOALS.false
+    c.if-record-gt-MOST_STEPS.false s.used ok _ (passes_or c.replay_and_retract.result)
+    (c.replay_and_retract.ensures.answer
+    ∙ ap (λ k. answer_to (checks alike book s.used (k - s.used)
+    (cells_of (take s.used c.as_mut_slice.result.now)) c.args.goals.now (steps_of c.args.record.now))) room
+    ∙ ap (λ l. answer_to (checks alike book s.used (capacity (vec_len s.cells) - s.used)
+    (cells_of (take s.used l)) c.args.goals.now (steps_of c.args.record.now))) c.as_mut_slice.ensures.value)
+    left refl

@@ -19,12 +19,9 @@ returns-in_err-all_in_use g c =
     c.args.goals.now c.args.work c.args.frames c.args.needed
     (in_use_number c.args.used c.args.cells.now c.requires.part) rest h.0 h.2)
 
-pub all_atoms-requires : goal.all_atoms-requires
-all_atoms-requires g c = record {
-  part = c.requires.part;
-  sound = c.requires.sound;
-  inside = all_used c.args.used c.args.goals.now c.in_ok-all_in_use.ensures;
-}
+pub all_atoms-requires-clause-inside : goal.all_atoms-requires-clause-inside
+all_atoms-requires-clause-inside g c =
+    all_used c.args.used c.args.goals.now c.in_ok-all_in_use.ensures
 
 pub returns-in_err-all_atoms : goal.returns-in_err-all_atoms
 returns-in_err-all_atoms g c =

@@ -1,15 +1,7 @@
-use Rattle.std.proofs.Common.{◌<◌, take, sym, refl, ◌∙◌}
+use Rattle.std.proofs.Common.{take, sym, refl, ◌∙◌}
 use Rattle.cells.specs.Cells.{cells_of}
-use Rattle.solver.proofs.Admitting.{all_at, one_atom, no_atom, none_left}
+use Rattle.solver.proofs.Admitting.{one_atom, no_atom, none_left}
 use Rattle.solver.proofs.input.all_atoms.Goals as goal
-
-pub node_at_root-requires : goal.node_at_root-requires
-node_at_root-requires g c = record {
-  part = c.requires.part;
-  sound = c.requires.sound;
-  inside = all_at (λ i. i < c.args.used) c.args.goals.now c.loop-goal.goal-index c.requires.inside
-      c.loop-goal-test.true;
-}
 
 pub returns-then-not-node_at_root : goal.returns-then-not-node_at_root
 returns-then-not-node_at_root g c = (

@@ -6,7 +6,7 @@ use Rattle.solver.proofs.make.make_solve.Goals as goal
 
 pub returns : goal.returns
 returns g c =
-    made_over (g.B.Book.entries c.args.book.now) (g.B.Book.rules c.args.book.now) c.args.slate.now
+    made_over (g.B.Book.entries c.args.book.now) (g.met.B.Book.rules c.args.book.now) c.args.slate.now
     c.solve-result.new.slate
     (solve c.args.goals.now c.args.budget (length c.args.steps.now) (length c.args.work.now)
     (length c.args.frames.now)) _ (solved_or c.solve-result.new.steps c.solve-result.result) refl

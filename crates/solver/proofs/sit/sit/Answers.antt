@@ -1,10 +1,8 @@
-use Rattle.std.proofs.Common.{◌≡◌, ◌+◌, ◌≤◌, map, length, take, Err, vec_items, sym, refl, ap, ◌∙◌, subst, arith}
-use lib.ListN.{length-map}
-use Rattle.std.proofs.lemmas.List.{take_all, length_push}
+use Rattle.std.proofs.Common.{◌+◌, map, length, Err, vec_items, sym, refl, ap, ◌∙◌, subst}
+use Rattle.std.proofs.lemmas.List.{length_push}
 use Rattle.std.proofs.lemmas.Result.{err_from_is_err_and}
-use Rattle.calls.specs.Answers.{answer_of}
 use Rattle.slate.specs.Slates.{supplied, on_slate}
-use Rattle.solver.specs.Sitting.{lent, history, Sitting, Sat, listed}
+use Rattle.solver.specs.Sitting.{lent, Sat, listed}
 use Rattle.solver.proofs.Sittings.{begun, at_lengths, collected, lost}
 use Rattle.solver.proofs.sit.sit.Goals as goal
 
@@ -15,11 +13,11 @@ loop-call-init g c = (
   refl,
   refl,
   refl,
-  begun (g.B.Book.entries c.args.book.now) (g.B.Book.rules c.args.book.now) _ _ c.wipe.ensures.wiped.begins,
+  begun (g.B.Book.entries c.args.book.now) (g.met.B.Book.rules c.args.book.now) _ _ c.wipe.ensures.wiped.begins,
 )
 
-pub returns-in_err-answer : goal.returns-in_err-answer
-returns-in_err-answer g c =
+pub returns-in_err-answer-clause-sat : goal.returns-in_err-answer-clause-sat
+returns-in_err-answer-clause-sat g c =
     let l = c.loop-call in
     let i = l.invariant in
     let f = lent (length c.args.steps.now) (length c.args.work.now) (length c.args.frames.now) in
@@ -27,22 +25,18 @@ returns-in_err-answer g c =
     let x = c.call-item.result in
     let m = c.make_call.ensures in
     let p = err_from_is_err_and c.from_residual.result c.from_residual.ensures.1 in
-    record {
-      sat =
-          subst (λ r. Sat book (supplied c.args.slate.now) (map f c.args.calls.now) (on_slate c.make_call.new.slate)
-          (listed r)) (sym p.1)
-          (subst (λ n. Sat book n (map f c.args.calls.now) (on_slate c.make_call.new.slate) (Err p.0))
-          c.wipe.ensures.as_many
-          (lost f c.args.calls.now l.call-index x c.call-item.is c.loop-call-test.true book
-          (supplied c.wipe.new.self) (on_slate l.slate) (on_slate c.make_call.new.slate) (vec_items l.answers) i.0
-          i.5 m.answer
-          (at_lengths book (on_slate l.slate) (on_slate c.make_call.new.slate) x m.answer i.1 i.2 i.3 i.4
-          m.carries) p.0));
-      as_many = (m.as_many ∙ i.1) ∙ c.wipe.ensures.as_many;
-    }
+    subst (λ r. Sat book (supplied c.args.slate.now) (map f c.args.calls.now) (on_slate c.make_call.new.slate)
+    (listed r)) (sym p.1)
+    (subst (λ n. Sat book n (map f c.args.calls.now) (on_slate c.make_call.new.slate) (Err p.0))
+    c.wipe.ensures.as_many
+    (lost f c.args.calls.now l.call-index x c.call-item.is c.loop-call-test.true book
+    (supplied c.wipe.new.self) (on_slate l.slate) (on_slate c.make_call.new.slate) (vec_items l.answers) i.0
+    i.5 m.answer
+    (at_lengths book (on_slate l.slate) (on_slate c.make_call.new.slate) x m.answer i.1 i.2 i.3 i.4
+    m.carries) p.0))
 
-pub returns-in_err-push : goal.returns-in_err-push
-returns-in_err-push g c =
+pub returns-in_err-push-clause-sat : goal.returns-in_err-push-clause-sat
+returns-in_err-push-clause-sat g c =
     let l = c.loop-call in
     let i = l.invariant in
     let f = lent (length c.args.steps.now) (length c.args.work.now) (length c.args.frames.now) in
@@ -50,19 +44,15 @@ returns-in_err-push g c =
     let x = c.call-item.result in
     let m = c.make_call.ensures in
     let p = err_from_is_err_and c.from_residual-in_err-push.result c.from_residual-in_err-push.ensures.1 in
-    record {
-      sat =
-          subst (λ r. Sat book (supplied c.args.slate.now) (map f c.args.calls.now) (on_slate c.make_call.new.slate)
-          (listed r)) (sym p.1)
-          (subst (λ n. Sat book n (map f c.args.calls.now) (on_slate c.make_call.new.slate) (Err p.0))
-          c.wipe.ensures.as_many
-          (lost f c.args.calls.now l.call-index x c.call-item.is c.loop-call-test.true book
-          (supplied c.wipe.new.self) (on_slate l.slate) (on_slate c.make_call.new.slate) (vec_items l.answers) i.0
-          i.5 m.answer
-          (at_lengths book (on_slate l.slate) (on_slate c.make_call.new.slate) x m.answer i.1 i.2 i.3 i.4
-          m.carries) p.0));
-      as_many = (m.as_many ∙ i.1) ∙ c.wipe.ensures.as_many;
-    }
+    subst (λ r. Sat book (supplied c.args.slate.now) (map f c.args.calls.now) (on_slate c.make_call.new.slate)
+    (listed r)) (sym p.1)
+    (subst (λ n. Sat book n (map f c.args.calls.now) (on_slate c.make_call.new.slate) (Err p.0))
+    c.wipe.ensures.as_many
+    (lost f c.args.calls.now l.call-index x c.call-item.is c.loop-call-test.true book
+    (supplied c.wipe.new.self) (on_slate l.slate) (on_slate c.make_call.new.slate) (vec_items l.answers) i.0
+    i.5 m.answer
+    (at_lengths book (on_slate l.slate) (on_slate c.make_call.new.slate) x m.answer i.1 i.2 i.3 i.4
+    m.carries) p.0))
 
 pub loop-call-preserved : goal.loop-call-preserved
 loop-call-preserved g c =
@@ -84,23 +74,3 @@ loop-call-preserved g c =
           (at_lengths book (on_slate l.slate) (on_slate c.make_call.new.slate) x m.answer i.1 i.2 i.3 i.4
           m.carries) c.in_ok-answer.answer m.is (vec_items c.push.new.self) items,
     )
-
-pub returns : goal.returns
-returns g c =
-    let l = c.loop-call in
-    let i = l.invariant in
-    let f = lent (length c.args.steps.now) (length c.args.work.now) (length c.args.frames.now) in
-    let all : length c.args.calls.now ≤ l.call-index = c.loop-call-test.false in
-    let whole : take l.call-index c.args.calls.now ≡ c.args.calls.now =
-    take_all l.call-index c.args.calls.now all in
-    record {
-      sat = (
-        (let e = i.0 in let k = l.auto.call-index-end in omega (arith, length-map c.args.calls.now f)),
-        subst (λ cs. Sitting (g.B.Book.entries c.args.book.now) (supplied c.args.slate.now)
-            (history (map f cs) (map answer_of (vec_items l.answers))) (on_slate l.slate)) whole
-            (subst (λ n. Sitting (g.B.Book.entries c.args.book.now) n
-            (history (map f (take l.call-index c.args.calls.now)) (map answer_of (vec_items l.answers))) (on_slate l.slate))
-            c.wipe.ensures.as_many i.5),
-      );
-      as_many = i.1 ∙ c.wipe.ensures.as_many;
-    }

@@ -3,58 +3,47 @@ use base.Stored.{Coded-set}
 use Rattle.std.proofs.lemmas.Result.{err_from_is_err_and}
 use Rattle.theory.specs.Calls.{solve}
 use Rattle.cells.specs.Cells.{cells_of, WellFormed}
-use Rattle.cells.proofs.Sameness.{decided}
 use Rattle.slate.specs.Slates.{KeptOver}
-use Rattle.slate.proofs.Next.{sound_out, refill}
+use Rattle.cells.proofs.Front.{refill}
+use Rattle.slate.proofs.Next.{sound_out}
 use Rattle.slate.proofs.Answering.{as_used}
 use Rattle.frames.specs.Points.{EndsAs}
 use Rattle.searching.specs.Answering.{left_by}
-use Rattle.solver.specs.declared.standing.Bounds.{Bounds}
+use Rattle.solver.specs.declared.bounds.Bounds.{Bounds}
 use Rattle.solver.specs.Searching.{limits_of, outcome_of, frame_steps}
-use Rattle.solver.specs.Solver.{solved_or, RecordLeft}
+use Rattle.solver.specs.Solver.{solved_or}
 use Rattle.solver.proofs.Solving.{solve_too_long, solve_refused, solve_searched, refused_over, admitted_over}
 use Rattle.solver.proofs.solve.solve.Goals as goal
 
-pub returns-then-goals-gt-MOST_GOALS : goal.returns-then-goals-gt-MOST_GOALS
-returns-then-goals-gt-MOST_GOALS g c = record {
-  kept =
-      solve_too_long (Coded-set g.row.L.coded) g.L.Leaf.alike (decided g.L.Leaf.alike g.met.L.Leaf.decides)
-      (g.B.Book.entries c.args.book.now) (g.B.Book.rules c.args.book.now) c.args.slate.now c.args.goals.now
-      c.args.budget (length c.args.steps.now) (length c.args.work.now) (length c.args.frames.now)
-      c.if-goals-gt-MOST_GOALS.true;
-  record_left = refl;
-}
+pub returns-then-goals-gt-MOST_GOALS-clause-kept : goal.returns-then-goals-gt-MOST_GOALS-clause-kept
+returns-then-goals-gt-MOST_GOALS-clause-kept g c =
+    solve_too_long (Coded-set g.row.L.coded) g.L.PartialEq.eq g.met.L.Leaf.decides
+    (g.B.Book.entries c.args.book.now) (g.met.B.Book.rules c.args.book.now) c.args.slate.now c.args.goals.now
+    c.args.budget (length c.args.steps.now) (length c.args.work.now) (length c.args.frames.now)
+    c.if-goals-gt-MOST_GOALS.true
 
-pub admit-requires : goal.admit-requires
-admit-requires g c =
+pub admit-requires-clause-sound : goal.admit-requires-clause-sound
+admit-requires-clause-sound g c =
     let s = c.args.slate.now in
-    record {
-      part = omega (arith, s.within, c.as_slice.ensures.len);
-      sound =
-          subst (λ l. WellFormed (take s.used l)) (sym c.as_slice.ensures.value)
-          (sound_out (Coded-set g.row.L.coded) (take s.used (vec_items s.cells)) s.sound);
-    }
+    subst (λ l. WellFormed (take s.used l)) (sym c.as_slice.ensures.value)
+    (sound_out (Coded-set g.row.L.coded) (take s.used (vec_items s.cells)) s.sound)
 
-pub returns-in_err-admit : goal.returns-in_err-admit
-returns-in_err-admit g c =
+pub returns-in_err-admit-clause-kept : goal.returns-in_err-admit-clause-kept
+returns-in_err-admit-clause-kept g c =
     let s = c.args.slate.now in
     let p = err_from_is_err_and c.from_residual.result c.from_residual.ensures.1 in
     let e : c.from_residual.result ≡ Err c.in_err-admit.field-0.0 = cc (p.1, p.2) in
-    record {
-      kept =
-          subst (λ r. KeptOver (g.B.Book.entries c.args.book.now) s s
-          (solve c.args.goals.now c.args.budget (length c.args.steps.now) (length c.args.work.now)
-          (length c.args.frames.now)) (solved_or c.args.steps.now r)) (sym e)
-          (solve_refused (Coded-set g.row.L.coded) g.L.Leaf.alike (decided g.L.Leaf.alike g.met.L.Leaf.decides)
-          (g.B.Book.entries c.args.book.now) (g.B.Book.rules c.args.book.now) s c.args.goals.now
-          c.args.budget (length c.args.steps.now) (length c.args.work.now) (length c.args.frames.now)
-          c.if-goals-gt-MOST_GOALS.false c.in_err-admit.field-0.0
-          (refused_over s c.args.goals.now (length c.args.steps.now) (length c.args.work.now)
-          (length c.args.frames.now) c.as_slice.result.now (length c.as_slice.result.now) c.min-served.result
-          c.as_slice.ensures.value c.as_slice.ensures.len c.min-served.ensures c.in_err-admit.field-0.0
-          c.in_err-admit.ensures));
-      record_left = subst (λ r. RecordLeft c.args.steps.now c.args.steps.now r) (sym e) refl;
-    }
+    subst (λ r. KeptOver (g.B.Book.entries c.args.book.now) s s
+    (solve c.args.goals.now c.args.budget (length c.args.steps.now) (length c.args.work.now)
+    (length c.args.frames.now)) (solved_or c.args.steps.now r)) (sym e)
+    (solve_refused (Coded-set g.row.L.coded) g.L.PartialEq.eq g.met.L.Leaf.decides
+    (g.B.Book.entries c.args.book.now) (g.met.B.Book.rules c.args.book.now) s c.args.goals.now
+    c.args.budget (length c.args.steps.now) (length c.args.work.now) (length c.args.frames.now)
+    c.if-goals-gt-MOST_GOALS.false c.in_err-admit.field-0.0
+    (refused_over s c.args.goals.now (length c.args.steps.now) (length c.args.work.now)
+    (length c.args.frames.now) c.as_slice.result.now (length c.as_slice.result.now) c.min-served.result
+    c.as_slice.ensures.value c.as_slice.ensures.len c.min-served.ensures c.in_err-admit.field-0.0
+    c.in_err-admit.ensures))
 
 pub run-end-requires : goal.run-end-requires
 run-end-requires g c =
@@ -82,27 +71,11 @@ run-end-requires g c =
           (sound_out (Coded-set g.row.L.coded) (take s.used (vec_items s.cells)) s.sound);
     }
 
-pub invariant_of-slate : goal.invariant_of-slate
-invariant_of-slate g c =
+pub returns-clause-kept : goal.returns-clause-kept
+returns-clause-kept g c =
     let s = c.args.slate.now in
     let ws = c.run-end.new.cells in
-    let used : c.run-end.result.used ≤ c.min.result = c.run-end.ensures.used in
-    let m : c.min.result ≡ min c.len.result 2048 = c.min.ensures in
-    let l : c.len.result ≡ vec_len s.cells = c.len.ensures in
-    record {
-      within = omega arith;
-      few = omega arith;
-      sound = ∣ subst (λ x. WellFormed (take c.run-end.result.used x))
-          (sym (refill (vec_len s.cells) (vec_items s.cells) ws s.cells.ok.0
-          (c.run-end.ensures.as_many ∙ ap length c.as_mut_slice.ensures.value)))
-          c.run-end.ensures.sound ∣₁;
-    }
-
-pub returns : goal.returns
-returns g c =
-    let s = c.args.slate.now in
-    let ws = c.run-end.new.cells in
-    let alike = g.L.Leaf.alike in
+    let alike = g.L.PartialEq.eq in
     let book = g.B.Book.entries c.args.book.now in
     let end = c.run-end.result in
     let o = outcome_of end.ending end.count (frame_steps (take end.depth c.run-end.new.frames)) in
@@ -112,27 +85,23 @@ returns g c =
       cells = c.min.result;
       first = s.used;
     } in
-    record {
-      kept =
-          subst (KeptOver book s _
-          (solve c.args.goals.now c.args.budget (length c.args.steps.now) (length c.args.work.now)
-          (length c.args.frames.now))) (sym c.conclude.ensures.is)
-          (solve_searched (Coded-set g.row.L.coded) alike (decided alike g.met.L.Leaf.decides) book
-          (g.B.Book.rules c.args.book.now) s c.args.goals.now c.args.budget (length c.args.steps.now)
-          (length c.args.work.now) (length c.args.frames.now) c.if-goals-gt-MOST_GOALS.false
-          b refl c.min-served.ensures (c.min.ensures ∙ ap (λ k. min k 2048) c.len.ensures) (sym (as_used s)) s.used
-          (admitted_over s c.args.goals.now (length c.args.steps.now) (length c.args.work.now)
-          (length c.args.frames.now) c.as_slice.result.now (length c.as_slice.result.now) c.min-served.result
-          c.as_slice.ensures.value c.as_slice.ensures.len c.min-served.ensures c.in_ok-admit.ensures)
-          o c.run-end.ensures.last
-          (subst (λ x. EndsAs alike book c.args.goals.now s.used (cells_of (take s.used x)) (limits_of b) o
-          c.run-end.ensures.last) c.as_mut_slice.ensures.value c.run-end.ensures.ends)
-          _
-          (ap (λ x. cells_of (take end.used x))
-          (refill (vec_len s.cells) (vec_items s.cells) ws s.cells.ok.0
-          (c.run-end.ensures.as_many ∙ ap length c.as_mut_slice.ensures.value))
-          ∙ (c.run-end.ensures.left
-          ∙ ap (λ x. left_by (cells_of (take s.used x)) c.run-end.ensures.last o) c.as_mut_slice.ensures.value))
-          refl);
-      record_left = c.conclude.ensures.left;
-    }
+    subst (KeptOver book s _
+    (solve c.args.goals.now c.args.budget (length c.args.steps.now) (length c.args.work.now)
+    (length c.args.frames.now))) (sym c.conclude.ensures.is)
+    (solve_searched (Coded-set g.row.L.coded) alike g.met.L.Leaf.decides book
+    (g.met.B.Book.rules c.args.book.now) s c.args.goals.now c.args.budget (length c.args.steps.now)
+    (length c.args.work.now) (length c.args.frames.now) c.if-goals-gt-MOST_GOALS.false
+    b refl c.min-served.ensures (c.min.ensures ∙ ap (λ k. min k 2048) c.len.ensures) (sym (as_used s)) s.used
+    (admitted_over s c.args.goals.now (length c.args.steps.now) (length c.args.work.now)
+    (length c.args.frames.now) c.as_slice.result.now (length c.as_slice.result.now) c.min-served.result
+    c.as_slice.ensures.value c.as_slice.ensures.len c.min-served.ensures c.in_ok-admit.ensures)
+    o c.run-end.ensures.last
+    (subst (λ x. EndsAs alike book c.args.goals.now s.used (cells_of (take s.used x)) (limits_of b) o
+    c.run-end.ensures.last) c.as_mut_slice.ensures.value c.run-end.ensures.ends)
+    _
+    (ap (λ x. cells_of (take end.used x))
+    (refill (vec_len s.cells) (vec_items s.cells) ws s.cells.ok.0
+    (c.run-end.ensures.as_many ∙ ap length c.as_mut_slice.ensures.value))
+    ∙ (c.run-end.ensures.left
+    ∙ ap (λ x. left_by (cells_of (take s.used x)) c.run-end.ensures.last o) c.as_mut_slice.ensures.value))
+    refl)
