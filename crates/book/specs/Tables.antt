@@ -4,6 +4,7 @@ use Rattle.std.specs.List.{slice_get, AllByRecursion}
 use Rattle.theory.specs.Entries.{Entry, EntryRules}
 use Rattle.book.specs.declared.entry.EntryCell.{EntryCell}
 use Rattle.book.specs.declared.table.Row.{Row}
+use Rattle.book.specs.declared.table.Table.{Table}
 use Rattle.book.specs.Answers.{kind_of, listed, part_of}
 
 -- the entry that a row means over its own cells
@@ -40,3 +41,7 @@ module _ {V : Type 0} (cells : List (EntryCell V)) where
   -- a table means the entries before its first faulty row
   abbrev pub TableMeans : List Row → List (Entry V) → Type 0
   TableMeans rows entries = (n : ℕ) × GoodRows rows n × (entries ≡ row_entries (take n rows))
+
+-- the entries of all rows of a table, good or not
+abbrev pub table_entries : {V : Type 0} → Table V → List (Entry V)
+table_entries t = row_entries t.cells.now t.rows.now

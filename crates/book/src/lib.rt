@@ -5,6 +5,7 @@ pub mod annex;
 pub mod entry;
 mod good_rows;
 pub mod interface;
+mod questions;
 pub mod rules;
 pub mod table;
 pub mod table_book;

@@ -1,11 +1,11 @@
-ghost use Rattle.std.specs.Prelude.{◌≡◌, ◌-◌, min, length};
+ghost use Rattle.std.specs.Prelude.{◌≡◌};
 ghost use Rattle.theory.specs.Entries.{BookRules};
-ghost use Rattle.book.specs.Tables.{TableMeans, row_entries};
+ghost use Rattle.book.specs.Tables.{TableMeans, row_entries, table_entries};
 
 use crate::entry::{EntryCell, Outline};
 use crate::good_rows::good_rows;
 use crate::interface::Book;
-use crate::table::Row;
+use crate::table::{Row, Table};
 use leaf::kind::Leaf;
 
 // A book that stands on a table: rows, and the cells that they point to. Whoever makes one of rows and cells owes the
@@ -31,11 +31,14 @@ impl<'a, L: Leaf> TableBook<'a, L> {
 }
 
 impl<L: Leaf> TableBook<'_, L> {
-    // How many of the table's cells the row has.
-    fn own_count(&self, row: &Row) -> usize
-        ensures { result ≡ min (length self.now.cells.now - row.now.first) row.now.cells }
+    // The rows and cells as a table, which answers over all of them.
+    fn table(&self) -> Table<'_, L>
+        ensures { table_entries result ≡ row_entries self.now.cells.now self.now.rows.now }
     {
-        self.cells.len().saturating_sub(row.first).min(row.cells)
+        Table {
+            rows: self.rows,
+            cells: self.cells,
+        }
     }
 }
 
@@ -45,31 +48,18 @@ impl<L: Leaf> Book<L> for TableBook<'_, L> {
     ghost rules = { λ b. b.keeps };
 
     fn len(&self) -> usize {
-        self.rows.len()
+        self.table().len()
     }
 
     fn outline(&self, entry: usize) -> Option<Outline> {
-        let row = self.rows.get(entry)?;
-        let cells = self.own_count(row);
-        Some(Outline {
-            kind: row.kind,
-            cells,
-            head: row.head,
-            goals: row.body.len as usize,
-        })
+        self.table().outline(entry)
     }
 
     fn cell(&self, entry: usize, cell: usize) -> Option<EntryCell<L>> {
-        let row = self.rows.get(entry)?;
-        if cell >= self.own_count(row) {
-            return None;
-        }
-        let cells = self.cells;
-        Some(cells[row.first + cell])
+        self.table().cell(entry, cell)
     }
 
     fn goal(&self, entry: usize, goal: usize) -> Option<u8> {
-        let row = self.rows.get(entry)?;
-        row.body.get(goal)
+        self.table().goal(entry, goal)
     }
 }

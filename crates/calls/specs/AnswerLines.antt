@@ -5,13 +5,17 @@ use Rattle.theory.specs.Records.{Step}
 use Rattle.theory.specs.Calls.{Answer, Refusal, wrote, accepted, same, different, grants, fails, passes, refused}
 use Rattle.slate.specs.RefusalTexts.{text_of_refusal}
 
--- a step: its mode, a comma and its number
-abbrev pub text_of_step : Step → List ℕ
-text_of_step s = decimal s.mode ++ (codes "," ++ decimal s.number)
+-- the word of a step: its mode, a comma and its number
+abbrev pub word_of_step : Step → List ℕ
+word_of_step s = decimal s.mode ++ (codes "," ++ decimal s.number)
 
--- all steps, one after the other, each behind a space
+-- a step: a space, its mode, a comma and its number
+abbrev pub text_of_step : Step → List ℕ
+text_of_step s = codes " " ++ word_of_step s
+
+-- all steps, one after the other
 abbrev pub text_of_steps : List Step → List ℕ
-text_of_steps steps = flat_map (λ s. codes " " ++ text_of_step s) steps
+text_of_steps steps = flat_map text_of_step steps
 
 -- the line of a granted search: its count and its record
 abbrev pub line_of_granted : ℕ → List Step → List ℕ

@@ -1,6 +1,6 @@
 ghost use Rattle.std.specs.Prelude.{Some};
 ghost use Rattle.calls.specs.Steps.{step_of};
-ghost use Rattle.calls.specs.AnswerLines.{text_of_step};
+ghost use Rattle.calls.specs.AnswerLines.{word_of_step};
 
 use std::fmt;
 
@@ -14,7 +14,7 @@ pub struct Step {
 
 // The mode, a comma and the number, as scripts have them.
 impl fmt::Display for Step {
-    ghost output = { λ s. Some (text_of_step (step_of s)) };
+    ghost output = { λ s. Some (word_of_step (step_of s)) };
 
     fn fmt<W: fmt::Write>(&self, f: &mut fmt::Formatter<W>) -> fmt::Result {
         write!(f, "{},{}", self.mode, self.number)

@@ -3,7 +3,8 @@ ghost use Rattle.std.proofs.Common.{rules};
 ghost use Rattle.leaf.specs.Marks.{mark_rewrites, marks_named};
 
 use crate::kind::{Leaf, WireLeaf};
-use crate::letter::Letter;
+// The letter of a mark is named here too.
+pub use crate::letter::Letter;
 use crate::output::{TooShort, put};
 
 // Where a reel stands: a letter for the shelf and a number on it.

@@ -38,8 +38,8 @@ impl From<WriteRefusal> for WritingError {
 pub fn form_bytes<L: WireLeaf, B: Book<L>>(heap: Global, book: &B) -> Result<Vec<u8>, WritingError>
     ensures { IfOk result (λ v. meaning L.WireLeaf.wide L.WireLeaf.reading v.items ≡ record { entries = B.Book.entries book.now; first_fault = None }) }
 {
-    let mut bytes = vec![in heap; 0; MOST_BYTES]?;
-    let count = write::<L, B>(book, bytes.as_mut_slice())?;
-    bytes.truncate(count);
-    Ok(bytes)
+    // into an array, so that nothing is allocated for a book that is refused, and no more than the form for another
+    let mut output = [0; MOST_BYTES];
+    let count = write::<L, B>(book, &mut output)?;
+    Ok(Vec::from_slice(heap, &output[0..count])?)
 }

@@ -10,5 +10,10 @@ use std::alloc::{AllocError, Global};
 pub fn answer_line(heap: Global, answer: &Answer) -> Result<String, AllocError>
     ensures { IfOk result (λ s. string_bytes s ≡ line_of_answer (answer_of answer.now)) }
 {
-    answer.to_string(heap)
+    let line = answer.to_string(heap)?;
+    match answer {
+        // growing has left up to as much room again, which the line of a record would keep
+        Answer::Granted { .. } => String::from_str(heap, line.as_str()),
+        _ => Ok(line),
+    }
 }

@@ -49,14 +49,12 @@ pub fn parse(heap: Global, text: &[u8]) -> Result<Script, ScriptError> {
         lent: Lent::first(0),
         calls: Vec::new(heap),
     };
+    let mut number = 0;
     for (index, line) in Pieces::of(text, b'\n').enumerate() {
-        draft
-            .take(heap, line)
-            .map_err(|fault| fault.at(index.saturating_add(1)))?;
+        number = index.saturating_add(1);
+        draft.take(heap, line).map_err(|fault| fault.at(number))?;
     }
     let Draft { cells, calls, .. } = draft;
-    let cells = cells.ok_or_else(|| ScriptError::Line {
-        number: Pieces::of(text, b'\n').count(),
-    })?;
+    let cells = cells.ok_or(ScriptError::Line { number })?;
     Ok(Script { cells, calls })
 }

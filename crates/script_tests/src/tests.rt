@@ -5,7 +5,7 @@ use script::answer_line::answer_line;
 use script::fault::ScriptError;
 use script::message::{book_message, script_message};
 use script::script::parse;
-use slate::refusal::{Refusal, Rule};
+use slate::refusal::Refusal;
 use std::alloc::Global;
 use std::process::Abort;
 use std::test::Fail;
@@ -267,7 +267,7 @@ fn refusals_are_printed(rt: HostRuntime) -> Result<(), Fail> {
         (
             Refusal::Unlawful {
                 step: 4096,
-                rule: Rule::Reading,
+                rule: 7,
             },
             "refused 6 step 4096 rule 7",
         ),

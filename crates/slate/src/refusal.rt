@@ -33,7 +33,8 @@ impl Rule {
     }
 }
 
-// A refusal, with what it carries: the first bad cell, the first bad step and its rule, or a search's count.
+// A refusal, with what it carries: the first bad cell, the first bad step and the number of its rule, or a search's count.
+// Whoever prints a refusal may have it from elsewhere, so the rule is a number, and no `Rule`: that would ask more.
 #[derive(Clone, Copy, PartialEq, Eq, Debug)]
 pub enum Refusal {
     NotInUse { cell: u16 },
@@ -41,7 +42,7 @@ pub enum Refusal {
     NotAnAtom { cell: u16 },
     TooLong,
     TooShort,
-    Unlawful { step: u16, rule: Rule },
+    Unlawful { step: u16, rule: u8 },
     NoCell,
     Clash,
     NoCellAfter { count: u32 },
@@ -79,10 +80,7 @@ impl fmt::Display for Refusal {
             Refusal::NotInUse { cell } | Refusal::NotAnAtom { cell } => {
                 write!(f, "{number} cell {cell}")
             }
-            Refusal::Unlawful { step, rule } => {
-                let rule = rule.number();
-                write!(f, "{number} step {step} rule {rule}")
-            }
+            Refusal::Unlawful { step, rule } => write!(f, "{number} step {step} rule {rule}"),
             Refusal::NoCellAfter { count }
             | Refusal::SpentAfter { count }
             | Refusal::FullAfter { count } => write!(f, "{number} tries {count}"),

@@ -38,11 +38,14 @@ impl<L: Leaf, B: Book<L>> Derivation<'_, '_, B, L> {
             let Some(goal) = self.goal else {
                 return Err(Refusal::Unlawful {
                     step: here,
-                    rule: Rule::GoalAndMode,
+                    rule: Rule::GoalAndMode.number(),
                 });
             };
             if let Some(rule) = self.broken_rule(goal, *step) {
-                return Err(Refusal::Unlawful { step: here, rule });
+                return Err(Refusal::Unlawful {
+                    step: here,
+                    rule: rule.number(),
+                });
             }
             if room - self.store.extent.used < self.cells_needed(*step) {
                 return Err(Refusal::NoCell);
@@ -50,7 +53,7 @@ impl<L: Leaf, B: Book<L>> Derivation<'_, '_, B, L> {
             if !self.take_step(goal, *step) {
                 return Err(Refusal::Unlawful {
                     step: here,
-                    rule: Rule::Reading,
+                    rule: Rule::Reading.number(),
                 });
             }
         }
@@ -58,7 +61,7 @@ impl<L: Leaf, B: Book<L>> Derivation<'_, '_, B, L> {
             None => Ok(()),
             Some(_) => Err(Refusal::Unlawful {
                 step: record.len() as u16,
-                rule: Rule::NonePending,
+                rule: Rule::NonePending.number(),
             }),
         }
     }

@@ -1,5 +1,5 @@
 // The search for a record, depth first over the first pending goal.
-ghost use Rattle.std.specs.Prelude.{◌≡◌, take, Some};
+ghost use Rattle.std.specs.Prelude.{◌≡◌, take, Some, OnErr};
 ghost use Rattle.cells.specs.Cells.{cells_of};
 ghost use Rattle.solver.specs.Searching.{FirstTries, Facing, Exhausted};
 ghost use Rattle.solver.specs.Runs.{Ready, Begun, Ran};
@@ -44,6 +44,7 @@ impl<L: Leaf, B: Book<L>> Search<'_, '_, '_, B, L> {
         ensures turned { SearchTurned L.PartialEq.eq (B.Book.entries self.old.derivation.now.book.now)
             (origin_of self.old) self.old self.new result }
         ensures same { GoesOn self.old self.new }
+        ensures unmoved { OnErr result ((self.old.derivation.now.depth ≡ 0) × (self.new ≡ self.old)) }
     {
         let depth = self.derivation.depth;
         if depth == 0 {

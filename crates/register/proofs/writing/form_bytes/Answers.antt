@@ -1,4 +1,4 @@
-use Rattle.std.proofs.Common.{ap, ◌∙◌, arith}
+use Rattle.std.proofs.Common.{ap, ◌∙◌}
 use Rattle.form.specs.Forms.{book_form}
 use Rattle.form.specs.Meanings.{meaning}
 use Rattle.form.proofs.ReadBack.{read_back}
@@ -12,6 +12,5 @@ returns g c =
     let laws = g.met.L.WireLeaf in
     let es = g.B.Book.entries c.args.book.now in
     let wrote = c.in_ok-count.ensures in
-    ap (meaning leaf.wide leaf.reading) (c.truncate.ensures.items
-    ∙ filled _ _ (book_form leaf.written es) _ c.in_ok-count.count c.in_ok-bytes.bytes.len wrote.1 (omega (arith, wrote.1.fits, wrote.1.count)))
+    ap (meaning leaf.wide leaf.reading) (c.in_ok-from_slice.ensures.items ∙ filled _ _ (book_form leaf.written es) c.in_ok-count.count wrote.1)
     ∙ read_back leaf.wide leaf.written leaf.reading laws.narrow.1 laws.even laws.rereads es (kept (g.met.B.Book.rules c.args.book.now)) wrote.0

@@ -26,8 +26,9 @@ loop-i-init g c =
 
 pub returns-in_default-clause-replays : goal.returns-in_default-clause-replays
 returns-in_default-clause-replays g c =
-    none_pending g.L.PartialEq.eq g.met.L.Leaf.decides g.B.Book.entries g.met.B.Book.rules c.args.self.now
-    c.loop-i.self c.args.room c.args.record.now c.loop-i.i c.loop-i.invariant c.loop-i-test.true c.in_default.is
+    rw c.number.ensures
+    (none_pending g.L.PartialEq.eq g.met.L.Leaf.decides g.B.Book.entries g.met.B.Book.rules c.args.self.now
+    c.loop-i.self c.args.room c.args.record.now c.loop-i.i c.loop-i.invariant c.loop-i-test.true c.in_default.is)
 
 pub broken_rule-requires : goal.broken_rule-requires
 broken_rule-requires g c =
@@ -36,9 +37,10 @@ broken_rule-requires g c =
 
 pub returns-in-Some-broken_rule-clause-replays : goal.returns-in-Some-broken_rule-clause-replays
 returns-in-Some-broken_rule-clause-replays g c =
-    bad_form g.L.PartialEq.eq g.met.L.Leaf.decides g.B.Book.entries g.met.B.Book.rules c.args.self.now
+    rw c.number-in-Some-broken_rule.ensures
+    (bad_form g.L.PartialEq.eq g.met.L.Leaf.decides g.B.Book.entries g.met.B.Book.rules c.args.self.now
     c.loop-i.self c.args.room c.args.record.now c.loop-i.i c.loop-i.invariant c.loop-i-test.true c.in-Some.goal c.in-Some.is
-    c.in-Some-broken_rule.rule c.in-Some-broken_rule.ensures
+    c.in-Some-broken_rule.rule c.in-Some-broken_rule.ensures)
 
 pub returns-then-room-self-clause-replays : goal.returns-then-room-self-clause-replays
 returns-then-room-self-clause-replays g c =
@@ -56,11 +58,12 @@ take_step-requires g c =
 
 pub returns-then-not-take_step-clause-replays : goal.returns-then-not-take_step-clause-replays
 returns-then-not-take_step-clause-replays g c =
-    after_fall g.L.PartialEq.eq g.met.L.Leaf.decides g.B.Book.entries g.met.B.Book.rules c.args.self.now
+    rw c.number-then-not-take_step.ensures
+    (after_fall g.L.PartialEq.eq g.met.L.Leaf.decides g.B.Book.entries g.met.B.Book.rules c.args.self.now
     c.loop-i.self c.args.room c.args.record.now c.loop-i.i c.loop-i.invariant c.loop-i-test.true c.in-Some.goal c.in-Some.is
     c.in_default-broken_rule.ensures
     (subst (λ k. k ≤ c.args.room - c.loop-i.self.store.now.extent.used) c.cells_needed.ensures c.if-room-self.false)
-    c.take_step.new.self c.if-not-take_step.ensures.is
+    c.take_step.new.self c.if-not-take_step.ensures.is)
 
 pub loop-i-preserved : goal.loop-i-preserved
 loop-i-preserved g c =
@@ -77,6 +80,7 @@ returns-in-None-clause-replays g c =
 
 pub returns-in-Some-goal-clause-replays : goal.returns-in-Some-goal-clause-replays
 returns-in-Some-goal-clause-replays g c =
-    still_pending g.L.PartialEq.eq g.met.L.Leaf.decides g.B.Book.entries g.met.B.Book.rules c.args.self.now
+    rw c.number-in-Some-goal.ensures
+    (still_pending g.L.PartialEq.eq g.met.L.Leaf.decides g.B.Book.entries g.met.B.Book.rules c.args.self.now
     c.loop-i.self c.args.room c.args.record.now c.loop-i.i c.loop-i.invariant c.loop-i-test.false
-    c.in-Some-goal.field-0 c.in-Some-goal.is c.loop-i.auto.i-end
+    c.in-Some-goal.field-0 c.in-Some-goal.is c.loop-i.auto.i-end)
