@@ -27,14 +27,14 @@ impl fmt::Display for Answer {
     fn fmt<W: fmt::Write>(&self, f: &mut fmt::Formatter<W>) -> fmt::Result {
         match self {
             Answer::Wrote { cell } => write!(f, "cell {cell}"),
-            Answer::Accepted => write!(f, "accepted"),
-            Answer::Same => write!(f, "equal"),
-            Answer::Different => write!(f, "different"),
+            Answer::Accepted => f.write_str("accepted"),
+            Answer::Same => f.write_str("equal"),
+            Answer::Different => f.write_str("different"),
             Answer::Granted { count, steps } => {
                 write!(f, "granted {count} steps{}", Record(steps.as_slice()))
             }
             Answer::Failed { count } => write!(f, "failed {count}"),
-            Answer::Passed => write!(f, "passed"),
+            Answer::Passed => f.write_str("passed"),
             Answer::Refused(refusal) => write!(f, "refused {refusal}"),
         }
     }

@@ -49,9 +49,9 @@ pub fn parse(heap: Global, text: &[u8]) -> Result<Script, ScriptError> {
         lent: Lent::first(0),
         calls: Vec::new(heap),
     };
-    let mut number = 0;
-    for (index, line) in Pieces::of(text, b'\n').enumerate() {
-        number = index.saturating_add(1);
+    let mut number: usize = 0;
+    for line in Pieces::of(text, b'\n') {
+        number = number.saturating_add(1);
         draft.take(heap, line).map_err(|fault| fault.at(number))?;
     }
     let Draft { cells, calls, .. } = draft;
