@@ -13,12 +13,13 @@ use book::entry::EntryCell;
 use leaf::kind::WireLeaf;
 use leaf::output::put;
 
-// Writes the bytes and says how many they are.
+// Writes the bytes and says how many they are. The part of the output that `put` gets is as long as they are, so that a
+// compiler that puts it inline drops its test of the room, which is proved here.
 pub(crate) fn put_bytes(bytes: &[u8], out: &mut [u8]) -> usize
     requires { length bytes.now ≤ length out.old }
     ensures { Fills out.old out.new bytes.now result }
 {
-    put(out, bytes).unwrap()
+    put(&mut out[..bytes.len()], bytes).unwrap()
 }
 
 // Writes what a field begins with: its tag, and how many bytes it holds.
